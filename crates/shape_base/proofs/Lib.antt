@@ -1,0 +1,14 @@
+pub mod Pieces
+pub mod Tests
+pub mod MapLaws
+pub mod KeyText
+pub mod Cells
+pub mod Slots
+pub mod Shown
+pub mod Commits
+pub mod Steps
+pub mod Snapshots
+pub mod LogLaw
+pub mod EndLaw
+pub mod Example
+pub mod Utf8Key

@@ -1,0 +1,5 @@
+pub mod Outside
+pub mod Tables
+pub mod Shape
+pub mod Log
+pub mod Laws

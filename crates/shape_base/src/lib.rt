@@ -1,0 +1,16 @@
+// The types that all crates speak of.
+#![tactic(auto)]
+
+pub mod history;
+pub mod in_memory;
+pub mod laws;
+pub mod memory;
+pub mod outside;
+pub mod plain;
+pub mod row;
+pub mod row_test;
+pub mod same;
+pub mod seq;
+pub mod served;
+pub mod standard;
+pub mod text;
