@@ -1,3 +1,6 @@
+pub mod Decimal
+pub mod Handle
+pub mod Offset
 pub mod Outside
 pub mod Tables
 pub mod Shape

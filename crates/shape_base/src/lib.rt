@@ -1,10 +1,13 @@
 // The types that all crates speak of.
 #![tactic(auto)]
 
+pub mod decimal;
+pub mod handle;
 pub mod history;
 pub mod in_memory;
 pub mod laws;
 pub mod memory;
+pub mod offset;
 pub mod outside;
 pub mod plain;
 pub mod row;
