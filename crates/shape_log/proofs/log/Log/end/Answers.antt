@@ -1,0 +1,11 @@
+use Rattle.std.proofs.Common.{sym, ap, ◌∙◌}
+use Rattle.shape_base.specs.declared.row.Offset.TheVariants.{At}
+use Rattle.shape_base.specs.Log.{end_of}
+use Rattle.shape_log.specs.Logged.{Logged}
+use Rattle.shape_log.proofs.Bounds.{last_is}
+use Rattle.shape_log.proofs.log.Log.end.Goals as goal
+
+pub returns-in-Some : goal.returns-in-Some
+returns-in-Some c =
+    last_is (At 0 0) c.deref.result.now c.in-Some.entry.now (sym c.in-Some.ensures.value)
+    ∙ ap end_of (c.deref.ensures.value ∙ ap (λ (l : Logged). l.entries) c.self.view_is)
