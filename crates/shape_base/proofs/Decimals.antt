@@ -10,7 +10,7 @@ use Rattle.shape_base.specs.declared.row.Offset.{Offset}
 use Rattle.shape_base.specs.declared.row.Offset.TheVariants.{Start, At}
 use Rattle.shape_base.specs.declared.handle.Handle.{Handle}
 use Rattle.shape_base.specs.Decimal.{IsSplit, LacksByte}
-use Rattle.shape_base.specs.Offset.{offset_text, IsOffset}
+use Rattle.shape_base.specs.OffsetText.{offset_text, IsOffset}
 use Rattle.shape_base.specs.Handle.{is_run_byte, is_run, IsHandle, handle_text}
 use Rattle.std.specs.Str.Parse.{ParsesUnsigned, AllDigits, digits_value}
 use Rattle.std.proofs.lemmas.Fmt.{parse-decimal, decimal_is_IsNumeral}

@@ -1,6 +1,7 @@
 pub mod Decimal
 pub mod Handle
-pub mod Offset
+pub mod OffsetText
+pub mod Offsets
 pub mod Outside
 pub mod Tables
 pub mod Shape

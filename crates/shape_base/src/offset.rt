@@ -1,7 +1,8 @@
 //! Offsets as texts, and their order.
 ghost use Rattle.std.specs.Prelude.{◌≡◌, IfOk, OnErr};
 ghost use Rattle.shape_base.specs.declared.row.Offset.{Offset};
-ghost use Rattle.shape_base.specs.Offset.{is_before, offset_text, IsOffset};
+ghost use Rattle.shape_base.specs.Offsets.{is_before};
+ghost use Rattle.shape_base.specs.OffsetText.{offset_text, IsOffset};
 
 use super::decimal::{read_decimal, split_at_first};
 use super::memory::OutOfMemory;

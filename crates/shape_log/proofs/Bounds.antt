@@ -6,7 +6,7 @@ use Rattle.std.specs.List.Sorted.{IsPartitionedBy, IsPartitionPoint}
 use Rattle.shape_base.specs.declared.row.Offset.{Offset}
 use Rattle.shape_base.specs.declared.row.Offset.TheVariants.{Start, At}
 use Rattle.shape_base.specs.declared.row.Entry.{Entry}
-use Rattle.shape_base.specs.Offset.{is_before, rises_after, upto, past}
+use Rattle.shape_base.specs.Offsets.{is_before, rises_after, upto, past}
 use Rattle.shape_base.specs.Log.{last_offset}
 use Rattle.shape_log.specs.Logged.{IsBound}
 use Rattle.shape_base.proofs.Tests.{both_true, both_are, false_from}

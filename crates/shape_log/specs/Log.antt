@@ -1,7 +1,7 @@
 -- What each log keeps.
 use Rattle.std.specs.Prelude.{◌≡◌, ◌+◌, ◌≤◌, true, vec_len, vec_capacity}
 use Rattle.shape_base.specs.declared.row.Offset.TheVariants.{At}
-use Rattle.shape_base.specs.Offset.{rises_after}
+use Rattle.shape_base.specs.Offsets.{rises_after}
 use Rattle.shape_log.specs.declared.log.Log.TheInside.{Inside}
 
 -- the offsets rise from after 0_0, and what may still be appended has room

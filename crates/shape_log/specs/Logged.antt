@@ -2,7 +2,7 @@
 use Rattle.std.specs.Prelude.{◌≡◌, ℕ, ◌≤◌, List, length, take, drop}
 use Rattle.shape_base.specs.declared.row.Offset.{Offset}
 use Rattle.shape_base.specs.declared.row.Entry.{Entry}
-use Rattle.shape_base.specs.Offset.{upto, past}
+use Rattle.shape_base.specs.Offsets.{upto, past}
 
 -- the entries, the sum of their sizes, and how many more entries take no memory
 pub record Logged : Type 0 where

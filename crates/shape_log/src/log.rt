@@ -1,6 +1,6 @@
 //! The log.
 ghost use Rattle.std.specs.Prelude.{◌≡◌, ◌↔◌, ℕ, ◌+◌, ◌-◌, ◌<◌, ◌≤◌, ◌^◌, true, [], ◌∷◌, ◌++◌, length, max, IsOk, IsErr, IfOk, IfErr, OnOk, OnErr, slice_get, Some};
-ghost use Rattle.shape_base.specs.Offset.{is_before};
+ghost use Rattle.shape_base.specs.Offsets.{is_before};
 ghost use Rattle.shape_base.specs.Log.{end_of};
 ghost use Rattle.shape_log.specs.Logged.{IsBound};
 
