@@ -1,0 +1,5 @@
+pub mod Loops
+pub mod Codec
+pub mod Places
+pub mod Lists
+pub mod Choice
