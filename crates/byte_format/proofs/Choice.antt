@@ -1,7 +1,7 @@
 -- Choices by a first byte: both laws.
 use Rattle.std.proofs.Common.{◌≡◌, ℕ, suc, ◌<◌, ◌≤◌, Bool, true, false, cond, eqb, List, [], ◌∷◌, ◌++◌, length, Result, Ok, Err, refl, sym, ap, subst, ◌∙◌, arith, inl, inr, ◌⊎◌}
 use Rattle.std.proofs.lemmas.Bool.{eqb-true}
-use Rattle.byte_format.specs.Format.{Read, mapped, Format, Tagged, Branches, branch, no_branch, first_at, choice, after, alt, alt_at, alt_spell, AltFits}
+use Rattle.byte_format.specs.Format.{Read, mapped, Format, Spelling, Branches, branch, no_branch, first_at, choice, after, alt, alt_at, alt_spell, AltFits}
 use Rattle.byte_format.proofs.Codec.{IsBytes, IsCodec, Takes, chosen, ok_is, mapped_ok, eqb-same}
 use Rattle.byte_format.proofs.Places.{Stops, IsPlaced, err_is, at_end, one_more, none_more, unmapped}
 
@@ -53,28 +53,22 @@ no_branch_is {A} {g} some fits = record {
   stops = λ b bytes left h same e. none_more g b bytes left some fits (err_is (suc (length bytes)) left e) same;
 }
 
--- A value's spelling is read by its branch.
-pub record IsRead {A : Type 0} (sent : A → Tagged) (branches : Branches A) : Type 0 where
-  pub again : (x : A) (rest : List ℕ) → (sent x).format.Fits (sent x).body → branches (sent x).tag ((sent x).format.spell (sent x).body ++ rest) ≡ Ok (x, rest)
+-- each value's spelling is read as it
+abbrev pub IsReadAgain : {A : Type 0} → (A → Spelling) → Branches A → Type 0
+IsReadAgain {A} sent branches = (x : A) (rest : List ℕ) → (sent x).Fits → first_at branches ((sent x).bytes ++ rest) ≡ Ok (x, rest)
 
 choice_takes : {A : Type 0} {g : Format A} {branches : Branches A} → IsBranching g branches → (bytes : List ℕ) (x : A) (rest : List ℕ) → IsBytes bytes → first_at branches bytes ≡ Ok (x, rest) → Takes bytes (g.spell x) rest × g.Fits x
-unfolding first_at
 choice_takes q [] x rest h e = absurd cc
 choice_takes q (b ∷ bytes) x rest h e = q.takes b bytes (x, rest) h.1 e
 
 choice_stops : {A : Type 0} {g : Format A} {branches : Branches A} → IsBranching g branches → ((bytes : List ℕ) → g.read bytes ≡ first_at branches bytes) → (some : A) → g.Fits some → (bytes : List ℕ) (left : ℕ) → IsBytes bytes
     → first_at branches bytes ≡ Err left → Stops g bytes left
-unfolding first_at
 choice_stops {g = g} q reads some fits [] left h e = at_end g [] left some (g.spell some) (err_is 0 left e) fits refl
 choice_stops q reads some fits (b ∷ bytes) left h e = q.stops b bytes left h.1 (λ rest. reads (b ∷ rest)) e
 
-choice_again : {A : Type 0} {sent : A → Tagged} {branches : Branches A} → IsRead sent branches → (x : A) (rest : List ℕ) → (choice sent branches).Fits x → (choice sent branches).read ((choice sent branches).spell x ++ rest) ≡ Ok (x, rest)
-unfolding first_at
-choice_again r x rest h = r.again x rest h
-
-pub choice_placed : {A : Type 0} {sent : A → Tagged} {branches : Branches A} → IsRead sent branches → IsBranching (choice sent branches) branches → (some : A) → (choice sent branches).Fits some → IsPlaced (choice sent branches)
+pub choice_placed : {A : Type 0} {sent : A → Spelling} {branches : Branches A} → IsReadAgain sent branches → IsBranching (choice sent branches) branches → (some : A) → (choice sent branches).Fits some → IsPlaced (choice sent branches)
 choice_placed r q some fits = record {
-  codec = record { takes = choice_takes q; again = choice_again r };
+  codec = record { takes = choice_takes q; again = r };
   some = some;
   some_fits = fits;
   stops = choice_stops q (λ bytes. refl) some fits;

@@ -149,15 +149,14 @@ counted_past between f = record {
 
 -- ---- choices by a first byte
 
--- a first byte, and what follows it in a format of its own
-pub record Tagged : Type 1 where
-  pub tag : ℕ
-  pub Body : Type 0
-  pub format : Format Body
-  pub body : Body
+-- the bytes of a value, and when it has a spelling
+pub record Spelling : Type 1 where
+  pub bytes : List ℕ
+  pub Fits : Type 0
 
-abbrev pub tagged : {A : Type 0} → ℕ → Format A → A → Tagged
-tagged {A} tag f x = record { tag = tag; Body = A; format = f; body = x }
+-- a first byte, and what follows it in a format of its own
+abbrev pub tagged : {A : Type 0} → ℕ → Format A → A → Spelling
+tagged tag f x = record { bytes = tag ∷ f.spell x; Fits = f.Fits x }
 
 -- how to go on after a first byte
 abbrev pub Branches : Type 0 → Type 0
@@ -171,17 +170,13 @@ branch tag f name others first bytes = if first == tag then mapped name (f.read 
 abbrev pub no_branch : {A : Type 0} → Branches A
 no_branch first bytes = Err (suc (length bytes))
 
-unfoldable pub first_at : {A : Type 0} → Branches A → List ℕ → Read A
+abbrev pub first_at : {A : Type 0} → Branches A → List ℕ → Read A
 first_at branches [] = Err 0
 first_at branches (b ∷ bytes) = branches b bytes
 
--- each value by its first byte and what follows
-abbrev pub choice : {A : Type 0} → (A → Tagged) → Branches A → Format A
-choice sent branches = record {
-  spell = λ x. (sent x).tag ∷ (sent x).format.spell (sent x).body;
-  read = first_at branches;
-  Fits = λ x. (sent x).format.Fits (sent x).body;
-}
+-- each value has a first byte and what follows; a reader goes by the first byte
+abbrev pub choice : {A : Type 0} → (A → Spelling) → Branches A → Format A
+choice sent branches = record { spell = λ x. (sent x).bytes; read = first_at branches; Fits = λ x. (sent x).Fits }
 
 -- a first byte chooses this format; without it the other one stands there
 abbrev pub alt_at : {A B : Type 0} → ℕ → (List ℕ → Read A) → (List ℕ → Read B) → List ℕ → Read (A ⊎ B)

@@ -1,6 +1,6 @@
 -- The messages and their bytes, in the order and the words of the PostgreSQL manual, 55.9 Logical Replication Message Formats.
 use Rattle.std.specs.Prelude.{ℕ, List, ◌∷◌, Bool, ◌||◌, ◌==◌}
-use Rattle.byte_format.specs.Format.{Format, Tagged, tagged, Branches, branch, no_branch, choice, byte, int32, int64, string, chunk, nothing, counted, after, named, ◌&◌}
+use Rattle.byte_format.specs.Format.{Format, Spelling, tagged, Branches, branch, no_branch, choice, byte, int32, int64, string, chunk, nothing, counted, after, named, ◌&◌}
 use Rattle.pgout.specs.declared.message.Field.{Field}
 use Rattle.pgout.specs.declared.message.Field.TheVariants.{Null, Unsent, Chars, Binary}
 use Rattle.pgout.specs.declared.message.ColumnSent.{ColumnSent}
@@ -10,7 +10,7 @@ use Rattle.pgout.specs.declared.message.Message.TheVariants.{Begin, Commit, Rela
 -- ---- the parts of messages
 
 -- A column of a row in TupleData: Byte1('n') null; or Byte1('u') unchanged and not sent; or Byte1('t') text, or Byte1('b') binary, with Int32 length and the bytes.
-abbrev pub sent_field : Field → Tagged
+abbrev pub sent_field : Field → Spelling
 sent_field Null = tagged 110 nothing tt
 sent_field Unsent = tagged 117 nothing tt
 sent_field (Chars value) = tagged 116 chunk value
@@ -56,7 +56,7 @@ insert = int32 & after 78 tuple
 
 -- ---- the messages, each with its first byte
 
-abbrev pub sent : Message → Tagged
+abbrev pub sent : Message → Spelling
 sent (Begin lsn time xid) = tagged 66 begin (lsn, (time, xid))
 sent (Commit flags lsn end time) = tagged 67 commit (flags, (lsn, (end, time)))
 sent (Relation oid ns name identity columns) = tagged 82 relation (oid, (ns, (name, (identity, columns))))

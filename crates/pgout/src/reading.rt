@@ -1,7 +1,7 @@
 //! The reading of messages.
 ghost use Rattle.std.specs.Prelude.{◌≡◌, ◌↔◌, ℕ, Ok, IfOk, MatchResult};
-ghost use Rattle.byte_format.specs.Format.{Gives, mapped};
-ghost use Rattle.pgout.specs.Grammar.{Fits, spelled, field, tuple, column, begin, commit, relation, insert, made_begin, made_commit, made_relation, made_insert, message, kinds};
+ghost use Rattle.byte_format.specs.Format.{Gives, mapped, counted};
+ghost use Rattle.pgout.specs.Grammar.{Fits, spelled, field, tuple, column, begin, commit, relation, insert, made_begin, made_commit, made_relation, made_insert, message, kinds, is_built};
 ghost use Rattle.pgout.specs.FirstWrong.{IsFirstWrong, IsNotBuilt, first_of};
 ghost use Rattle.pgout.specs.Reading.{whole};
 
@@ -95,7 +95,6 @@ fn body_of(alloc: Global, kind: u8, bytes: &[u8]) -> Result<(Message, &[u8]), Re
     }
 }
 
-#[tactic(auto, unfolding(byte_format::specs::Format::first_at))]
 fn whole_of(alloc: Global, bytes: &[u8]) -> Result<Message, ReadError>
     ensures { Gives (λ x. x) result (whole bytes.now) }
 {
@@ -136,11 +135,11 @@ pub fn read_message(alloc: Global, bytes: &[u8]) -> Result<Message, MessageError
     // What is read is in the grammar, and all of the bytes are its spelling.
     ensures found { IfOk result (λ m. Fits m × (bytes.now ≡ spelled m)) }
     // A message of the grammar is read from its spelling, unless memory runs out.
-    ensures again { (m : Message) → Fits m → bytes.now ≡ spelled m → MatchResult result (λ n. n ≡ m) (λ e. e ≡ OutOfMemory) }
+    ensures again { (m : Message) → Fits m → bytes.now ≡ spelled m → MatchResult result (λ n. n ≡ m) (λ e. e ≡ MessageError.OutOfMemory) }
     // The place is the first byte that no message has there, or the length.
-    ensures bad { (place kind : ℕ) → result ≡ Err (BadMessage place kind) → IsFirstWrong bytes.now place × (kind ≡ first_of bytes.now) }
+    ensures bad { (place kind : ℕ) → result ≡ Err (MessageError.BadMessage place kind) → IsFirstWrong bytes.now place × (kind ≡ first_of bytes.now) }
     // Another first byte is refused as not built, and nothing else is.
-    ensures not_built { (kind : ℕ) → (result ≡ Err (NotBuilt kind)) ↔ IsNotBuilt kind bytes.now }
+    ensures not_built { (kind : ℕ) → (result ≡ Err (MessageError.NotBuilt kind)) ↔ IsNotBuilt kind bytes.now }
 {
     let kind = kind_of(bytes);
     if !bytes.is_empty() && !is_kind(kind) {
