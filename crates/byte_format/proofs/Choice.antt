@@ -41,8 +41,8 @@ branch_stops {A} {B} {f} {g} {name} {tag} {others} s p q b bytes left h same e =
       | inr k ↦ q.stops b bytes left h (λ rest. same rest ∙ rw k.0 refl) k.1
     ]
 
-pub branch_is : {A B : Type 0} {f : Format A} {g : Format B} {name : A → B} {tag : ℕ} {others : Branches B} → IsBranch g tag f name → IsPlaced f → IsBranching g others → IsBranching g (branch tag f name others)
-branch_is s p q = record { takes = branch_takes s p.codec q; stops = branch_stops s p q }
+pub branch_is : {A B : Type 0} {f : Format A} {g : Format B} {others : Branches B} (tag : ℕ) (name : A → B) → IsBranch g tag f name → IsPlaced f → IsBranching g others → IsBranching g (branch tag f name others)
+branch_is tag name s p q = record { takes = branch_takes s p.codec q; stops = branch_stops s p q }
 
 no_branch_takes : {A : Type 0} (b : ℕ) (bytes : List ℕ) (y : A × List ℕ) → no_branch {A = A} b bytes ≡ Ok y → ⊥
 no_branch_takes b bytes y e = cc

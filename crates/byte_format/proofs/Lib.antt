@@ -3,3 +3,4 @@ pub mod Codec
 pub mod Places
 pub mod Lists
 pub mod Choice
+pub mod Wholes

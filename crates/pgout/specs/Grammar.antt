@@ -1,5 +1,5 @@
 -- The messages and their bytes, in the order and the words of the PostgreSQL manual, 55.9 Logical Replication Message Formats.
-use Rattle.std.specs.Prelude.{ℕ, List, ◌∷◌, Bool, ◌||◌, ◌==◌}
+use Rattle.std.specs.Prelude.{ℕ, List}
 use Rattle.byte_format.specs.Format.{Format, Spelling, tagged, Branches, branch, no_branch, choice, byte, int32, int64, string, chunk, nothing, counted, after, named, ◌&◌}
 use Rattle.pgout.specs.declared.message.Field.{Field}
 use Rattle.pgout.specs.declared.message.Field.TheVariants.{Null, Unsent, Chars, Binary}
@@ -87,7 +87,3 @@ spelled m = message.spell m
 -- What has a spelling: names hold no zero byte, lists have fewer than 2^16 items, values are shorter than 2^32 bytes.
 abbrev pub Fits : Message → Type 0
 Fits m = message.Fits m
-
--- the kinds that are read so far
-abbrev pub is_built : ℕ → Bool
-is_built kind = (kind == 66) || (kind == 67) || (kind == 82) || (kind == 73)

@@ -1,3 +1,2 @@
 pub mod Grammar
-pub mod FirstWrong
-pub mod Reading
+pub mod Faults

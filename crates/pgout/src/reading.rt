@@ -1,9 +1,9 @@
 //! The reading of messages.
 ghost use Rattle.std.specs.Prelude.{◌≡◌, ◌↔◌, ℕ, Ok, IfOk, MatchResult};
 ghost use Rattle.byte_format.specs.Format.{Gives, mapped, counted};
-ghost use Rattle.pgout.specs.Grammar.{Fits, spelled, field, tuple, column, begin, commit, relation, insert, made_begin, made_commit, made_relation, made_insert, message, kinds, is_built};
-ghost use Rattle.pgout.specs.FirstWrong.{IsFirstWrong, IsNotBuilt, first_of};
-ghost use Rattle.pgout.specs.Reading.{whole};
+ghost use Rattle.pgout.specs.Grammar.{Fits, spelled, field, tuple, column, begin, commit, relation, insert, made_begin, made_commit, made_relation, made_insert, message, kinds};
+ghost use Rattle.byte_format.specs.Whole.{IsFirstWrong, whole};
+ghost use Rattle.pgout.specs.Faults.{IsNotBuilt, first_of, is_built};
 
 use crate::fault::MessageError;
 use crate::message::{ColumnSent, ColumnsSent, Field, Fields, Message};
@@ -96,7 +96,7 @@ fn body_of(alloc: Global, kind: u8, bytes: &[u8]) -> Result<(Message, &[u8]), Re
 }
 
 fn whole_of(alloc: Global, bytes: &[u8]) -> Result<Message, ReadError>
-    ensures { Gives (λ x. x) result (whole bytes.now) }
+    ensures { Gives (λ x. x) result (whole message bytes.now) }
 {
     match bytes {
         [] => Err(ReadError::Wrong { left: 0 }),
@@ -137,7 +137,7 @@ pub fn read_message(alloc: Global, bytes: &[u8]) -> Result<Message, MessageError
     // A message of the grammar is read from its spelling, unless memory runs out.
     ensures again { (m : Message) → Fits m → bytes.now ≡ spelled m → MatchResult result (λ n. n ≡ m) (λ e. e ≡ MessageError.OutOfMemory) }
     // The place is the first byte that no message has there, or the length.
-    ensures bad { (place kind : ℕ) → result ≡ Err (MessageError.BadMessage place kind) → IsFirstWrong bytes.now place × (kind ≡ first_of bytes.now) }
+    ensures bad { (place kind : ℕ) → result ≡ Err (MessageError.BadMessage place kind) → IsFirstWrong message bytes.now place × (kind ≡ first_of bytes.now) }
     // Another first byte is refused as not built, and nothing else is.
     ensures not_built { (kind : ℕ) → (result ≡ Err (MessageError.NotBuilt kind)) ↔ IsNotBuilt kind bytes.now }
 {
