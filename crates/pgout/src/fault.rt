@@ -1,0 +1,20 @@
+//! Why bytes are no message.
+
+/// Why a message could not be read.
+#[derive(Clone, Copy, Debug, PartialEq, Eq, Drop)]
+pub enum MessageError {
+    /// The bytes are no whole message with nothing left over.
+    BadMessage {
+        /// The index of the first byte that no message of this kind has there, or the length where the bytes end too early.
+        place: u64,
+        /// The first byte, or 0 where there is none.
+        kind: u8,
+    },
+    /// The first byte is none of `B`, `C`, `R` and `I`, the kinds that are read so far.
+    NotBuilt {
+        /// The first byte.
+        kind: u8,
+    },
+    /// An allocation failed.
+    OutOfMemory,
+}
