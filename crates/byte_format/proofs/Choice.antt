@@ -1,8 +1,8 @@
 -- Choices by a first byte: both laws.
-use Rattle.std.proofs.Common.{◌≡◌, ℕ, suc, ◌<◌, ◌≤◌, Bool, true, false, cond, eqb, List, [], ◌∷◌, ◌++◌, length, Result, Ok, Err, refl, sym, ap, subst, ◌∙◌, arith, inl, inr, ◌⊎◌}
+use Rattle.std.proofs.Common.{◌≡◌, ℕ, suc, false, eqb, List, [], ◌∷◌, ◌++◌, length, Ok, Err, refl, sym, ap, subst, ◌∙◌, inl, inr, ◌⊎◌}
 use Rattle.std.proofs.lemmas.Bool.{eqb-true}
-use Rattle.byte_format.specs.Format.{Read, mapped, Format, Spelling, Branches, branch, no_branch, first_at, choice, after, alt, alt_at, alt_spell, AltFits}
-use Rattle.byte_format.proofs.Codec.{IsBytes, IsCodec, Takes, chosen, ok_is, mapped_ok, eqb-same}
+use Rattle.byte_format.specs.Format.{mapped, Format, Spelling, Branches, branch, no_branch, first_at, choice, after, alt}
+use Rattle.byte_format.proofs.Codec.{IsBytes, IsCodec, Takes, chosen, mapped_ok, eqb-same}
 use Rattle.byte_format.proofs.Places.{Stops, IsPlaced, err_is, at_end, one_more, none_more, unmapped}
 
 -- ---- a choice by branches

@@ -6,7 +6,7 @@ use Rattle.std.proofs.lemmas.Bool.{ltb-true, ltb-false, le-ltb}
 use Rattle.std.proofs.lemmas.List.{append-nil, nil_from_length, length-append, length-replicate, length-take, take-append-drop, take_at, drop_at}
 use Rattle.std.proofs.lemmas.List.Concat.{flat_map-cons}
 use Rattle.byte_format.specs.Format.{Read, ◌>>=◌, mapped, Format, number_at, number, chunk, chunk_at, ◌&◌, times, counted, long_counted, counted_past}
-use Rattle.byte_format.proofs.Codec.{IsBytes, IsBytes-take, IsBytes-drop, IsCodec, Takes, Takes-then, IsWide, wide16, wide32, bind_ok, guard_ok, ok_is, number_takes, number_again, pair_is}
+use Rattle.byte_format.proofs.Codec.{IsBytes, IsBytes-take, IsBytes-drop, IsCodec, Takes, Takes-then, IsWide, wide16, wide32, bind_ok, guard_ok, ok_is, number_takes, number_again}
 use Rattle.byte_format.proofs.Places.{Stops, IsPlaced, at_end, bind_err, guard_err, number_stops, renamed, unmapped, mapped_same, pair_placed, IsBytes-append, IsBytes-zeros}
 
 -- ---- the same format, spelled and read alike

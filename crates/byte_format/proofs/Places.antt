@@ -1,11 +1,11 @@
 -- Where a format's reader stops: at the first byte that no value has there. The formats that are no lists.
-use Rattle.std.proofs.Common.{◌≡◌, ℕ, zero, suc, ◌-◌, ◌^◌, ◌<◌, ◌≤◌, Bool, true, false, cond, eqb, ltb, List, [], ◌∷◌, ◌++◌, length, take, drop, replicate, Result, Ok, Err, refl, sym, ap, subst, ◌∙◌, append_assoc, arith, inl, inr, ◌⊎◌}
+use Rattle.std.proofs.Common.{◌≡◌, ℕ, zero, suc, ◌-◌, ◌^◌, ◌<◌, Bool, true, false, cond, eqb, ltb, List, [], ◌∷◌, ◌++◌, length, take, drop, replicate, Result, Ok, Err, refl, sym, ap, subst, ◌∙◌, append_assoc, arith, inl, inr, ◌⊎◌}
 use Rattle.std.specs.List.{AllByRecursion}
 use Rattle.std.specs.Int.{Width, w16, w32, w64, byte_len, from_be_bytes}
-use Rattle.std.proofs.lemmas.Bool.{ltb-true, eqb-true}
+use Rattle.std.proofs.lemmas.Bool.{ltb-true}
 use Rattle.std.proofs.lemmas.List.{append-nil, length-append, length-replicate}
 use Rattle.byte_format.specs.Format.{Read, ◌>>=◌, mapped, Format, number_at, number, int16, int32, int64, byte_at, byte, ◌&◌, string_at, string, tag_at, after, named, nothing}
-use Rattle.byte_format.proofs.Codec.{IsBytes, IsCodec, Takes, IsWide, IsRenaming, chosen, ok_is, tag_ok, at_index, number_is, wide16, wide32, wide64, eqb-same, byte_is, string_is, nothing_is, pair_is, after_is, named_is}
+use Rattle.byte_format.proofs.Codec.{IsBytes, IsCodec, Takes, IsWide, IsRenaming, chosen, tag_ok, at_index, number_is, wide16, wide32, wide64, eqb-same, byte_is, string_is, nothing_is, pair_is, after_is, named_is}
 
 -- The reader stopped with this many bytes from the first wrong one on. What stands before it begins a value;
 -- with the wrong byte nothing is read, whatever follows.

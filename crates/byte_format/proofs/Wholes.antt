@@ -1,10 +1,10 @@
 -- Bytes that hold one value and nothing after it: what is read is spelled so, it is read again, and the first wrong byte is where reading stops.
-use Rattle.std.proofs.Common.{◌≡◌, ℕ, suc, ◌-◌, ◌≤◌, Bool, true, false, cond, eqb, List, [], ◌∷◌, ◌++◌, length, Ok, Err, refl, sym, ap, subst, ◌∙◌, arith, inl, inr}
+use Rattle.std.proofs.Common.{◌≡◌, ℕ, ◌-◌, ◌≤◌, Bool, true, false, cond, eqb, List, [], ◌∷◌, ◌++◌, length, Ok, Err, refl, sym, ap, subst, ◌∙◌, arith, inl, inr}
 use Rattle.std.proofs.lemmas.Bool.{eqb-true}
 use Rattle.std.proofs.lemmas.List.{append-nil, length-append, nil_from_length}
-use Rattle.byte_format.specs.Format.{Format, ◌>>=◌}
+use Rattle.byte_format.specs.Format.{Format}
 use Rattle.byte_format.specs.Whole.{ended, whole, IsFirstWrong}
-use Rattle.byte_format.proofs.Codec.{IsBytes, IsCodec, Takes, bind_ok, ok_is}
+use Rattle.byte_format.proofs.Codec.{IsBytes, IsCodec, bind_ok, ok_is}
 use Rattle.byte_format.proofs.Places.{Stops, IsPlaced, err_is, bind_err}
 
 guard_ok : {A : Type 0} (b : Bool) (d : ℕ) (x y : A) → cond b (Ok x) (Err d) ≡ Ok y → (b ≡ true) × (x ≡ y)

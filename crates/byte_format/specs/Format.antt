@@ -158,6 +158,10 @@ pub record Spelling : Type 1 where
 abbrev pub tagged : {A : Type 0} → ℕ → Format A → A → Spelling
 tagged tag f x = record { bytes = tag ∷ f.spell x; Fits = f.Fits x }
 
+-- no spelling at all
+abbrev pub unspelled : Spelling
+unspelled = record { bytes = []; Fits = ⊥ }
+
 -- how to go on after a first byte
 abbrev pub Branches : Type 0 → Type 0
 Branches A = ℕ → List ℕ → Read A

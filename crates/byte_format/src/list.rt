@@ -1,9 +1,11 @@
 //! Lists of parts that are all of one format.
-ghost use Rattle.std.specs.Prelude.{◌≡◌, ◌++◌, List, ℕ, OnOk};
+ghost use Rattle.std.specs.Prelude.{◌≡◌, ◌++◌, OnOk};
 ghost use Rattle.std.specs.List.{flat_map, AllByRecursion};
-ghost use Rattle.byte_format.specs.Format.{Gives, Format, times};
+ghost use Rattle.byte_format.specs.Format.{Gives, Format, int32, times};
 
 use crate::fault::ReadError;
+use crate::reading::u32_at;
+use crate::writing::put_u32;
 use std::alloc::{AllocError, Global};
 
 /// A value with a format of its own.
@@ -50,4 +52,16 @@ pub fn put_list<T: Part>(out: &mut Vec<u8>, items: &[T]) -> Result<(), AllocErro
         item.put_part(out)?;
     }
     Ok(())
+}
+
+impl Part for u32 {
+    ghost format = { int32 };
+
+    fn read_part(_alloc: Global, bytes: &[u8]) -> Result<(u32, &[u8]), ReadError> {
+        u32_at(bytes)
+    }
+
+    fn put_part(&self, out: &mut Vec<u8>) -> Result<(), AllocError> {
+        put_u32(out, *self)
+    }
 }

@@ -1,6 +1,5 @@
 //! Readers of single parts. Each takes the part from the front of bytes and gives the bytes after it.
-ghost use Rattle.std.specs.Prelude.{◌≡◌, Ok, [], List, ℕ};
-ghost use Rattle.byte_format.specs.Format.{Gives, byte, int16, int32, int64, string, chunk, nothing, tag_at};
+ghost use Rattle.byte_format.specs.Format.{Gives, byte, int16, int32, int64, string, chunk, tag_at};
 
 use crate::fault::ReadError;
 use std::alloc::Global;

@@ -10,11 +10,6 @@ pub enum MessageError {
         /// The first byte, or 0 where there is none.
         kind: u8,
     },
-    /// The first byte is none of `B`, `C`, `R` and `I`, the kinds that are read so far.
-    NotBuilt {
-        /// The first byte.
-        kind: u8,
-    },
     /// An allocation failed.
     OutOfMemory,
 }

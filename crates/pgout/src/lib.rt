@@ -3,6 +3,7 @@
 //! Formats.
 #![tactic(auto)]
 
+mod bodies;
 mod fault;
 mod message;
 mod parts;
@@ -10,6 +11,9 @@ mod reading;
 mod writing;
 
 pub use fault::MessageError;
-pub use message::{ColumnSent, ColumnsSent, Field, Fields, Message};
+pub use message::{Before, ColumnSent, ColumnsSent, Field, Fields, Message};
 pub use reading::read_message;
 pub use writing::write_message;
+
+#[cfg(test)]
+mod tests;

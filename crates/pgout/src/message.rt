@@ -1,9 +1,9 @@
 //! The messages.
-use shape_base::row::Octets;
+use shape_base::row::{Octets, Oids};
 use shape_base::seq::Seq;
 
 /// A column of a relation, as a Relation message sends it.
-#[derive(Drop)]
+#[derive(PartialEq, Eq, Drop)]
 pub struct ColumnSent {
     /// 1 where the column is part of the key, else 0. Any value is kept.
     pub flags: u8,
@@ -19,7 +19,7 @@ pub struct ColumnSent {
 pub type ColumnsSent = Seq<ColumnSent>;
 
 /// A column of a row, as TupleData sends it.
-#[derive(Drop)]
+#[derive(PartialEq, Eq, Drop)]
 pub enum Field {
     /// The value is null.
     Null,
@@ -34,8 +34,19 @@ pub enum Field {
 /// The columns of a row, from left to right.
 pub type Fields = Seq<Field>;
 
+/// What an Update or a Delete sends of the row as it was.
+#[derive(PartialEq, Eq, Drop)]
+pub enum Before {
+    /// Nothing.
+    Absent,
+    /// The old key; the other columns are null.
+    Key(Fields),
+    /// The whole old row, under replica identity full.
+    Whole(Fields),
+}
+
 /// A message of the stream.
-#[derive(Drop)]
+#[derive(PartialEq, Eq, Drop)]
 pub enum Message {
     /// A transaction begins.
     Begin {
@@ -45,6 +56,17 @@ pub enum Message {
         time: u64,
         /// The transaction's id.
         xid: u32,
+    },
+    /// A logical decoding message.
+    Logical {
+        /// 1 where the message is transactional, else 0. Any value is kept.
+        flags: u8,
+        /// The LSN of the message.
+        lsn: u64,
+        /// The prefix, without its zero byte.
+        prefix: Octets,
+        /// The content.
+        content: Octets,
     },
     /// A transaction ends.
     Commit {
@@ -56,6 +78,13 @@ pub enum Message {
         end: u64,
         /// When it was committed, in microseconds since 2000-01-01, as its 64 bits.
         time: u64,
+    },
+    /// The transaction came from another server.
+    Origin {
+        /// The LSN of the commit on the origin server.
+        lsn: u64,
+        /// The origin's name, without its zero byte.
+        name: Octets,
     },
     /// The definition of a table, which stands before its first change.
     Relation {
@@ -70,11 +99,43 @@ pub enum Message {
         /// The columns.
         columns: ColumnsSent,
     },
+    /// The name of a data type, which stands before the first Relation that uses it.
+    TypeName {
+        /// The type's object identifier.
+        oid: u32,
+        /// The namespace, empty for `pg_catalog`.
+        ns: Octets,
+        /// The type's name.
+        name: Octets,
+    },
     /// A row was inserted.
     Insert {
         /// The table's object identifier.
         oid: u32,
         /// The new row.
         row: Fields,
+    },
+    /// A row was updated.
+    Update {
+        /// The table's object identifier.
+        oid: u32,
+        /// What is sent of the old row.
+        before: Before,
+        /// The new row.
+        row: Fields,
+    },
+    /// A row was deleted.
+    Delete {
+        /// The table's object identifier.
+        oid: u32,
+        /// What is sent of the old row. A Delete without it has no bytes.
+        before: Before,
+    },
+    /// Tables were truncated.
+    Truncate {
+        /// 1 for CASCADE, 2 for RESTART IDENTITY. Any value is kept.
+        options: u8,
+        /// The tables' object identifiers.
+        oids: Oids,
     },
 }

@@ -1,3 +1,4 @@
+pub mod Maps
 pub mod Decimals
 pub mod Pieces
 pub mod Tests
@@ -11,5 +12,10 @@ pub mod Steps
 pub mod Snapshots
 pub mod LogLaw
 pub mod EndLaw
+pub mod Growing
+pub mod Rising
+pub mod SameLog
+pub mod GoodByStep
+pub mod ChunkLaws
 pub mod Example
 pub mod Utf8Key

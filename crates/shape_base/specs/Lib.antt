@@ -1,9 +1,14 @@
+pub mod Maps
 pub mod Decimal
 pub mod Handle
 pub mod OffsetText
 pub mod Offsets
 pub mod Outside
 pub mod Tables
+pub mod GoodSteps
+pub mod Visibility
+pub mod Snapshot
 pub mod Shape
 pub mod Log
+pub mod Chunks
 pub mod Laws

@@ -1,6 +1,8 @@
 // The types that all crates speak of.
 #![tactic(auto)]
 
+#[cfg(test)]
+mod cases;
 pub mod decimal;
 pub mod handle;
 pub mod history;
@@ -10,6 +12,7 @@ pub mod memory;
 pub mod offset;
 pub mod outside;
 pub mod plain;
+pub mod quote;
 pub mod row;
 pub mod row_test;
 pub mod same;

@@ -5,4 +5,3 @@
 mod log;
 
 pub use log::{Log, OffsetAhead};
-

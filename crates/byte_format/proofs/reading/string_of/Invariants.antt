@@ -1,4 +1,4 @@
-use Rattle.std.proofs.Common.{◌≡◌, length, take, drop}
+use Rattle.std.proofs.Common.{◌≡◌, take, drop}
 use Rattle.byte_format.specs.Format.{string_at}
 use Rattle.byte_format.proofs.Loops.{with_text}
 use Rattle.byte_format.proofs.reading.string_of.Given as goal

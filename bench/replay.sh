@@ -1,0 +1,107 @@
+#!/usr/bin/env bash
+# How fast a script is replayed: MB/s of shape_replay beside sha256sum on the same file, in the same run.
+# The file is a script of about 60 MB, made from a seed: one table, many transactions of a few inserts, and one watch at the end, which prints all
+# rows. A script a tenth as large tells whether the time grows with the size. Fails where replay has less than a tenth of sha256sum's bytes per second,
+# where ten times the script takes more than twelve times the time, or where memory is above 20 bytes per byte of script and 64 MB.
+# Skips where a tool is missing. Wants 250 MB of disk and 1.3 GB of memory.
+set -u
+cd "$(dirname "$0")/.." || exit 1
+for tool in rt python3 sha256sum awk; do
+    command -v "$tool" >/dev/null || { echo "replay.sh: skipped, there is no $tool"; exit 0; }
+done
+folder=$(mktemp -d) || exit 1
+trap 'rm -rf "$folder"' EXIT
+
+python3 - "$folder" <<'PYTHON'
+import random
+import struct
+import sys
+
+OID = struct.pack('>I', 16384)
+COLUMNS = [(b'id', 23), (b'n', 23), (b's', 25)]
+
+
+def record(kind, payload=b''):
+    return kind + struct.pack('>I', len(payload)) + payload
+
+
+def columns():
+    return struct.pack('>H', len(COLUMNS)) + b''.join(name + b'\0' + struct.pack('>I', oid) for name, oid in COLUMNS)
+
+
+def relation():
+    sent = b''.join(b'\1' + name + b'\0' + struct.pack('>Ii', oid, -1) for name, oid in COLUMNS)
+    return b'R' + OID + b'public\0items\0f' + struct.pack('>H', len(COLUMNS)) + sent
+
+
+def row(rng, number):
+    values = [b'%d' % number, b'%d' % rng.randrange(1000), bytes(rng.choices(b'abcdefghij ', k=rng.randrange(30)))]
+    return struct.pack('>H', 3) + b''.join(b't' + struct.pack('>I', len(value)) + value for value in values)
+
+
+def opening():
+    watch = record(b'W', bytes(4))
+    yield record(b'T', b'public\0items\0' + OID + columns() + struct.pack('>HH', 1, 0))
+    yield record(b'N', b'table=items') + watch
+    yield record(b'G', bytes(4) + b'1:1:\0' + OID + columns() + bytes(4)) + watch
+
+
+def transaction(rng, xid, first):
+    yield b'B' + struct.pack('>QqI', xid * 100, 0, xid)
+    if xid == 1:
+        yield relation()
+    for number in range(first, first + rng.randrange(1, 9)):
+        yield b'I' + OID + b'N' + row(rng, number)
+    yield b'C' + struct.pack('>BQQq', 0, xid * 100, xid * 100 + 8, 0)
+
+
+def write(path, size):
+    rng = random.Random(60)
+    with open(path, 'wb') as out:
+        done, xid = sum(out.write(part) for part in opening()), 0
+        while done < size:
+            xid += 1
+            for message in transaction(rng, xid, xid * 10):
+                done += out.write(record(b'M', message))
+        out.write(record(b'W', bytes(4)) + record(b'E'))
+
+
+write(sys.argv[1] + '/large', 60_000_000)
+write(sys.argv[1] + '/small', 6_000_000)
+PYTHON
+
+(cd crates/shape_replay && rt run -- replay < stdin > /dev/null 2>&1) || { echo "replay.sh: shape_replay does not run"; exit 1; }
+program=$PWD/crates/shape_replay/out/shape_replay
+
+# seconds FILE WORDS..: the best of three runs with the file as input
+seconds() {
+    best= file=$1
+    shift
+    for _ in 1 2 3; do
+        start=$(date +%s.%N)
+        "$@" < "$file" > "$folder/answer" || { echo "replay.sh: $1 fails" >&2; exit 1; }
+        end=$(date +%s.%N)
+        took=$(awk -v a="$start" -v b="$end" 'BEGIN { print b - a }')
+        best=$(awk -v a="$took" -v b="${best:-$took}" 'BEGIN { print (a < b) ? a : b }')
+    done
+    echo "$best"
+}
+
+hashing=$(seconds "$folder/large" sha256sum) || exit 1
+small=$(seconds "$folder/small" "$program" replay) || exit 1
+large=$(seconds "$folder/large" "$program" replay) || exit 1
+tail -1 "$folder/answer"
+peak=$(python3 - "$program" "$folder/large" <<'PYTHON'
+import resource
+import subprocess
+import sys
+
+subprocess.run([sys.argv[1], 'replay'], stdin=open(sys.argv[2], 'rb'), stdout=subprocess.DEVNULL, check=True)
+print(resource.getrusage(resource.RUSAGE_CHILDREN).ru_maxrss * 1024)
+PYTHON
+) || exit 1
+size=$(wc -c < "$folder/large")
+awk -v bytes="$size" -v small="$small" -v large="$large" -v hash="$hashing" -v peak="$peak" 'BEGIN {
+    printf "replay %.1f MB/s, sha256sum %.1f MB/s, ratio %.3f; ten times the script takes %.1f times the time; %.1f bytes of memory per byte\n", bytes / large / 1e6, bytes / hash / 1e6, hash / large, large / small, peak / bytes
+    exit hash / large < 0.1 || large / small > 12 || peak > 20 * bytes + 64e6
+}'

@@ -1,0 +1,6 @@
+pub mod Places
+pub mod Maps
+pub mod Texts
+pub mod Checking
+pub mod Deciding
+pub mod Breaking

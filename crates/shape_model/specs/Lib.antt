@@ -1,0 +1,4 @@
+pub mod Maps
+pub mod Checks
+pub mod Breaks
+pub mod Order

@@ -1,0 +1,11 @@
+pub mod Joins
+pub mod Settling
+pub mod Turns
+pub mod Filling
+pub mod Items
+pub mod Folds
+pub mod TableLaws
+pub mod Plays
+pub mod Seen
+pub mod Writing
+pub mod Blocks

@@ -1,0 +1,36 @@
+-- What reading the next record gives.
+use Rattle.std.specs.Prelude.{◌≡◌, ℕ, ◌+◌, List, [], ◌++◌, length, drop, Option, Some, None}
+use Rattle.shape_replay.specs.declared.script.Item as raw
+use Rattle.shape_replay.specs.declared.stop.Stop.{Stop}
+use Rattle.shape_replay.specs.declared.stop.Stop.TheVariants as stops
+use Rattle.shape_replay.specs.Script.{Item, item_at}
+
+abbrev pub view : raw.Item → Item
+view r = record { kind = r.kind; payload = r.payload.items }
+
+-- what was given in between
+abbrev pub since : List ℕ → List ℕ → List ℕ
+since given given' = drop (length given) given'
+
+-- bytes went over from what is left to what was given, within a budget
+pub record Consumes (given left : List ℕ) (budget : ℕ) (given' left' : List ℕ) (budget' : ℕ) : Type 0 where
+  pub came : given' ≡ given ++ since given given'
+  pub gone : left ≡ since given given' ++ left'
+  pub size : budget ≡ length (since given given') + budget'
+
+-- the piece is the next record; or it is no whole one, and no byte is left
+abbrev pub IsNext : Option raw.Item → List ℕ → List ℕ → Type 0
+IsNext None piece seen' = (item_at piece ≡ None) × (seen' ≡ [])
+IsNext (Some r) piece seen' = (rest : List ℕ) → item_at (piece ++ rest) ≡ Some (view r, rest)
+
+-- a reader gives up for these alone
+abbrev pub IsOfReading : Stop → Type 0
+IsOfReading stops.OutOfMemory = Unit {0}
+IsOfReading stops.ReadFault = Unit {0}
+IsOfReading _ = ⊥
+
+-- a writer gives up for these alone
+abbrev pub IsOfWriting : Stop → Type 0
+IsOfWriting stops.OutOfMemory = Unit {0}
+IsOfWriting stops.WriteFault = Unit {0}
+IsOfWriting _ = ⊥

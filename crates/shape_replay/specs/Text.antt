@@ -1,0 +1,39 @@
+-- The lines of the output.
+use Rattle.std.specs.Prelude.{ℕ, List, [], ◌∷◌, ◌++◌, length, codes, decimal}
+use Rattle.std.specs.List.{flat_map}
+use Rattle.json.specs.Token.{Token, begin_object, end_object, key, string, null}
+use Rattle.json.specs.Print.{print}
+use Rattle.shape_base.specs.declared.row.Value.{Value}
+use Rattle.shape_base.specs.declared.row.Value.TheVariants.{Null, Words}
+use Rattle.shape_base.specs.declared.row.Offset.{Offset}
+use Rattle.shape_base.specs.declared.row.Cell.{Cell}
+use Rattle.shape_base.specs.OffsetText.{offset_text}
+use Rattle.shape_base.specs.Shape.{Keyed}
+use Rattle.shape_replay.specs.Run.{Out, Block, End}
+
+abbrev pub value_token : Value → Token
+value_token Null = null
+value_token (Words words) = string words
+
+abbrev pub cell_tokens : Cell → List Token
+cell_tokens c = key c.name ∷ value_token c.value ∷ []
+
+-- the cells as the tokens of a JSON object
+abbrev pub object_tokens : List Cell → List Token
+object_tokens cells = begin_object ∷ flat_map cell_tokens cells ++ end_object ∷ []
+
+-- a row: its key as a JSON string, a space, its cells as a JSON object
+abbrev pub row_line : Keyed → List ℕ
+row_line row = print (string row.0 ∷ []) ++ 32 ∷ print (object_tokens row.1) ++ 10 ∷ []
+
+-- the first line of a block; the only handle is 1-replay
+abbrev pub block_line : ℕ → Offset → ℕ → List ℕ
+block_line client offset count = codes "client " ++ decimal client ++ codes " up-to-date 1-replay " ++ offset_text offset ++ codes " " ++ decimal count ++ codes "\n"
+
+abbrev pub out_text : Out → List ℕ
+out_text (Block client offset rows) = block_line client offset (length rows) ++ flat_map row_line rows
+out_text (End exchanges) = codes "end " ++ decimal exchanges ++ codes "\n"
+
+-- what is written of outs
+abbrev pub text_of : List Out → List ℕ
+text_of outs = flat_map out_text outs

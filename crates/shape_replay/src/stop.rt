@@ -1,0 +1,55 @@
+//! Why a run ended before its end record.
+ghost use Rattle.std.specs.Prelude.{◌≡◌};
+ghost use Rattle.shape_replay.specs.declared.stop.Stop.TheVariants.{OutOfMemory};
+
+use std::alloc::{AllocError, AllocFailed};
+
+/// Why a record of a script is refused.
+#[derive(Clone, Copy, Debug, PartialEq, Eq)]
+pub enum ScriptCause {
+    /// It is outside of what the program takes so far.
+    NotBuilt,
+}
+
+/// Why a run ended before its end record.
+#[derive(Clone, Copy, Debug, PartialEq, Eq)]
+pub enum Stop {
+    /// An allocation failed.
+    OutOfMemory,
+    /// The words are no form of the command line.
+    Usage,
+    /// The input failed.
+    ReadFault,
+    /// The output failed.
+    WriteFault,
+    /// A record was refused.
+    BadScript(ScriptCause),
+    /// The input ended before the end record.
+    Unfinished,
+    /// The script is longer than its limit.
+    TooLong,
+}
+
+impl From<AllocError> for Stop {
+    ghost from_gives = { λ _ e. e ≡ OutOfMemory };
+
+    fn from(_error: AllocError) -> Stop {
+        Stop::OutOfMemory
+    }
+}
+
+impl<T: Drop> From<AllocFailed<T>> for Stop {
+    ghost from_gives = { λ _ e. e ≡ OutOfMemory };
+
+    fn from(_error: AllocFailed<T>) -> Stop {
+        Stop::OutOfMemory
+    }
+}
+
+impl From<shape_base::memory::OutOfMemory> for Stop {
+    ghost from_gives = { λ _ e. e ≡ OutOfMemory };
+
+    fn from(_error: shape_base::memory::OutOfMemory) -> Stop {
+        Stop::OutOfMemory
+    }
+}

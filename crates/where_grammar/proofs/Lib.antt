@@ -1,0 +1,10 @@
+pub mod GrammarLaws
+pub mod GrammarUnder
+pub mod Exactly
+pub mod Fits
+pub mod Printed
+pub mod Named
+pub mod ClauseLaws
+pub mod Cuts
+pub mod ToRules
+pub mod FromRules

@@ -1,0 +1,7 @@
+pub mod Tree
+pub mod Grammar
+pub mod Meaning
+pub mod Printing
+pub mod Again
+pub mod Clause
+pub mod Cases

@@ -1,0 +1,5 @@
+pub mod Lexing
+pub mod Seen
+pub mod Classes
+pub mod Texts
+pub mod Writing

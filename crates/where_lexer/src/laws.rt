@@ -1,0 +1,6 @@
+ghost use Rattle.where_lexer.specs.Texts.{TextAgain};
+
+/// The canonical text of tokens has these tokens.
+pub fn text_again()
+    ensures { TextAgain }
+{}

@@ -1,0 +1,4 @@
+pub mod Chains
+pub mod Ranks
+pub mod Parsed
+pub mod Prints
