@@ -12,7 +12,7 @@ use shape_base::memory::OutOfMemory;
 use shape_base::text::Text;
 use std::alloc::Global;
 use where_grammar::words::IsTest;
-use where_lexer::token::Token;
+use where_lexer::token::{CmpOp, Token};
 use where_lexer::writing::Writer;
 
 /// How tightly the outermost word of the tree binds.
@@ -112,6 +112,33 @@ fn put_list(out: &mut Writer, list: &Exprs) -> Result<(), OutOfMemory>
     out.put(&Token::Close)
 }
 
+/// Writes NOT and what is negated.
+#[cycle(printing)]
+fn put_not(out: &mut Writer, inner: &Expr) -> Result<(), OutOfMemory>
+    ensures { OnOk result (out.new ≡ with_tokens out.old (tokens.Not ∷ part 2 (tree_of inner.now))) }
+{
+    out.put(&Token::Not)?;
+    put_part(out, inner, 2)
+}
+
+/// Writes a comparison's operator and its right side.
+#[cycle(printing)]
+fn put_compared(out: &mut Writer, op: CmpOp, right: &Expr) -> Result<(), OutOfMemory>
+    ensures { OnOk result (out.new ≡ with_tokens out.old (tokens.Compare op ∷ part 5 (tree_of right.now))) }
+{
+    out.put(&Token::Compare(op))?;
+    put_part(out, right, 5)
+}
+
+/// Writes the left side of IN, BETWEEN or LIKE, and NOT where it is negated.
+#[cycle(printing)]
+fn put_left(out: &mut Writer, left: &Expr, negated: bool) -> Result<(), OutOfMemory>
+    ensures { OnOk result (out.new ≡ with_tokens out.old (part 6 (tree_of left.now) ++ maybe negated)) }
+{
+    put_part(out, left, 6)?;
+    put_negation(out, negated)
+}
+
 /// Writes BETWEEN, the lower bound and AND.
 #[cycle(printing)]
 fn put_low(out: &mut Writer, low: &Expr) -> Result<(), OutOfMemory>
@@ -122,6 +149,26 @@ fn put_low(out: &mut Writer, low: &Expr) -> Result<(), OutOfMemory>
     out.put(&Token::And)
 }
 
+/// Writes the left side of an IS, that word, and NOT where it is negated.
+#[cycle(printing)]
+fn put_is(out: &mut Writer, left: &Expr, negated: bool) -> Result<(), OutOfMemory>
+    ensures { OnOk result (out.new ≡ with_tokens out.old (part 4 (tree_of left.now) ++ (tokens.Is ∷ maybe negated))) }
+{
+    put_part(out, left, 4)?;
+    out.put(&Token::Is)?;
+    put_negation(out, negated)
+}
+
+/// Writes DISTINCT FROM and the right side.
+#[cycle(printing)]
+fn put_distinct(out: &mut Writer, right: &Expr) -> Result<(), OutOfMemory>
+    ensures { OnOk result (out.new ≡ with_tokens out.old (tokens.Distinct ∷ tokens.From ∷ part 4 (tree_of right.now))) }
+{
+    out.put(&Token::Distinct)?;
+    out.put(&Token::From)?;
+    put_part(out, right, 4)
+}
+
 /// Writes a tree.
 #[cycle(printing)]
 fn put_tree(out: &mut Writer, expr: &Expr) -> Result<(), OutOfMemory>
@@ -130,32 +177,21 @@ fn put_tree(out: &mut Writer, expr: &Expr) -> Result<(), OutOfMemory>
     match expr {
         Expr::Or(list) => put_members(out, list, &Token::Or, 1),
         Expr::And(list) => put_members(out, list, &Token::And, 2),
-        Expr::Not(inner) => {
-            out.put(&Token::Not)?;
-            put_part(out, inner, 2)
-        }
+        Expr::Not(inner) => put_not(out, inner),
         Expr::Is { left, not, test } => {
-            put_part(out, left, 4)?;
-            out.put(&Token::Is)?;
-            put_negation(out, *not)?;
+            put_is(out, left, *not)?;
             put_test(out, *test)
         }
         Expr::Distinct { left, not, right } => {
-            put_part(out, left, 4)?;
-            out.put(&Token::Is)?;
-            put_negation(out, *not)?;
-            out.put(&Token::Distinct)?;
-            out.put(&Token::From)?;
-            put_part(out, right, 4)
+            put_is(out, left, *not)?;
+            put_distinct(out, right)
         }
         Expr::Cmp { op, left, right } => {
             put_part(out, left, 5)?;
-            out.put(&Token::Compare(*op))?;
-            put_part(out, right, 5)
+            put_compared(out, *op, right)
         }
         Expr::Within { left, not, list } => {
-            put_part(out, left, 6)?;
-            put_negation(out, *not)?;
+            put_left(out, left, *not)?;
             put_list(out, list)
         }
         Expr::Between {
@@ -164,14 +200,12 @@ fn put_tree(out: &mut Writer, expr: &Expr) -> Result<(), OutOfMemory>
             low,
             high,
         } => {
-            put_part(out, left, 6)?;
-            put_negation(out, *not)?;
+            put_left(out, left, *not)?;
             put_low(out, low)?;
             put_part(out, high, 6)
         }
         Expr::Like { left, not, pattern } => {
-            put_part(out, left, 6)?;
-            put_negation(out, *not)?;
+            put_left(out, left, *not)?;
             out.put(&Token::Like)?;
             out.put_quoted(pattern)
         }
