@@ -1,0 +1,5 @@
+pub mod ErrorScan
+pub mod FrameLaws
+pub mod Refusals
+pub mod CuttingLaws
+pub mod Looking
