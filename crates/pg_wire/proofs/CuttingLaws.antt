@@ -97,18 +97,26 @@ took_fed fed piece taken old new same grown p = record {
 
 -- ---- ends
 
-took_end : (fed : List ℕ) (taken : List Frame) (now : Reached) (f : Front) (refusal : Option FrameError) → Took fed taken now → front now.place now.rest ≡ f → held_of held_from now.place now.rest f ≡ ended refusal
-    → frames_of fed ≡ record { frames = taken; refusal = refusal }
-took_end fed taken now f refusal p e h =
-    ap (held_from 0) (sym (append-nil fed)) ∙ p.ahead [] ∙ ap (λ (bytes : List ℕ). after taken (held_from now.place bytes)) (append-nil now.rest)
-    ∙ ap (after taken) (held_step now.place now.rest ∙ ap (held_of held_from now.place now.rest) e ∙ h)
+took_end : (fed more : List ℕ) (taken : List Frame) (now : Reached) (f : Front) (refusal : Option FrameError) → Took fed taken now → front now.place (now.rest ++ more) ≡ f
+    → held_of held_from now.place (now.rest ++ more) f ≡ ended refusal → frames_of (fed ++ more) ≡ record { frames = taken; refusal = refusal }
+took_end fed more taken now f refusal p e h =
+    p.ahead more ∙ ap (after taken) (held_step now.place (now.rest ++ more) ∙ ap (held_of held_from now.place (now.rest ++ more)) e ∙ h)
     ∙ ap (λ (fs : List Frame). record { frames = fs; refusal = refusal }) (append-nil taken)
 
 pub took_all : (fed : List ℕ) (taken : List Frame) (now : Reached) → Took fed taken now → front now.place now.rest ≡ Unfinished → frames_of fed ≡ record { frames = taken; refusal = None }
-took_all fed taken now p e = took_end fed taken now Unfinished None p e refl
+took_all fed taken now p e =
+    ap (held_from 0) (sym (append-nil fed)) ∙ took_end fed [] taken now Unfinished None p (ap (front now.place) (append-nil now.rest) ∙ e) refl
 
-pub took_refused : (fed : List ℕ) (taken : List Frame) (now : Reached) (error : FrameError) → Took fed taken now → front now.place now.rest ≡ Refused error → frames_of fed ≡ record { frames = taken; refusal = Some error }
-took_refused fed taken now error p e = took_end fed taken now (Refused error) (Some error) p e refl
+stays_refused : (place : ℕ) (bytes more : List ℕ) (error : FrameError) → front place bytes ≡ Refused error → front place (bytes ++ more) ≡ Refused error
+stays_refused place bytes more error e =
+    elim (front_stays place bytes more) [
+      | inl h ↦ absurd (let k = sym h ∙ e in cc)
+      | inr h ↦ h ∙ e
+    ]
+
+-- whatever is fed behind
+pub took_refused : (fed more : List ℕ) (taken : List Frame) (now : Reached) (error : FrameError) → Took fed taken now → front now.place now.rest ≡ Refused error → frames_of (fed ++ more) ≡ record { frames = taken; refusal = Some error }
+took_refused fed more taken now error p e = took_end fed more taken now (Refused error) (Some error) p (stays_refused now.place now.rest more error e) refl
 
 -- ---- the turns of the loop
 
@@ -121,6 +129,6 @@ moves_smaller old new given m =
     omega (arith, ap length m.rest, length-drop m.size old.rest, w.some, w.inside)
 
 pub refuses : (e : FrameError) (old now : Reached) → Leads old [] now → (e ≡ errors.OutOfMemory) ⊎ (front now.place now.rest ≡ Refused e)
-    → (e ≡ errors.OutOfMemory) ⊎ ((fed : List ℕ) (taken : List Frame) → Took fed taken old → frames_of fed ≡ record { frames = taken; refusal = Some e })
+    → (e ≡ errors.OutOfMemory) ⊎ ((fed more : List ℕ) (taken : List Frame) → Took fed taken old → frames_of (fed ++ more) ≡ record { frames = taken; refusal = Some e })
 refuses e old now p (inl h) = inl h
-refuses e old now p (inr h) = inr (λ fed taken t. took_refused fed taken now e (later fed taken old now t p) h)
+refuses e old now p (inr h) = inr (λ fed more taken t. took_refused fed more taken now e (later fed taken old now t p) h)

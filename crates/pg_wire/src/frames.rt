@@ -150,11 +150,13 @@ impl Frames {
     /// `FrameTooLong`: a length above `LONGEST`. `BadFrame`: a length below 4; a payload that is not as its type byte wants it, as soon as nothing can
     /// complete it, for CommandComplete and ErrorResponse when it is whole. `ServerError`: an ErrorResponse.
     pub fn next(&mut self) -> Result<Option<Frame>, FrameError>
-        // However the bytes were cut: what is taken are their frames.
+        // However the bytes were cut: what is taken is the front of their list of frames.
         ensures took { (fed : List ℕ) (taken : List Frame) → Took fed taken self.old → Took fed (taken ++ given result) self.new }
+        // `None`: no whole frame and nothing that is refused stands at the place reached, and the frames of all that was fed are those that were taken.
         ensures none { IfOk result (λ o. o ≡ None → front self.new.place self.new.rest ≡ Unfinished) }
         ensures whole { result ≡ Ok None → (fed : List ℕ) (taken : List Frame) → Took fed taken self.old → frames_of fed ≡ record { frames = taken; refusal = None } }
-        ensures refused { IfErr result (λ e. (e ≡ FrameError.OutOfMemory) ⊎ ((fed : List ℕ) (taken : List Frame) → Took fed taken self.old → frames_of fed ≡ record { frames = taken; refusal = Some e })) }
+        // A refusal is the one that ends the list, whatever is fed behind.
+        ensures refused { IfErr result (λ e. (e ≡ FrameError.OutOfMemory) ⊎ ((fed more : List ℕ) (taken : List Frame) → Took fed taken self.old → frames_of (fed ++ more) ≡ record { frames = taken; refusal = Some e })) }
     {
         loop {
             match self.step() {
