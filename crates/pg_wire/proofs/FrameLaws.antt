@@ -87,7 +87,7 @@ no_data : (a b c : Bool) → cond a false c ≡ true → cond a b c ≡ true
 no_data true b c e = absurd cc
 no_data false b c e = e
 
-may : (kind len : ℕ) (rest more : List ℕ) → len ≤ length rest → may_be kind len rest ≡ true → may_be kind len (rest ++ more) ≡ true
+pub may : (kind len : ℕ) (rest more : List ℕ) → len ≤ length rest → may_be kind len rest ≡ true → may_be kind len (rest ++ more) ≡ true
 may kind len (first ∷ rest) more le e = e
 may kind zero [] [] le e = e
 may kind zero [] (first ∷ more) le e = no_data (eqb kind 100) (may_be_data 0 (first ∷ more)) (cond (eqb kind 99) true true) e

@@ -3,3 +3,4 @@ pub mod FrameLaws
 pub mod Refusals
 pub mod CuttingLaws
 pub mod Looking
+pub mod Reading

@@ -4,3 +4,4 @@ pub mod FrameList
 pub mod Contents
 pub mod Cutting
 pub mod Status
+pub mod Laws

@@ -9,6 +9,7 @@ mod first;
 mod frame;
 mod frames;
 mod header;
+pub mod laws;
 mod status;
 
 pub use frame::{Frame, FrameError, LONGEST};
