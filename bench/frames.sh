@@ -1,9 +1,9 @@
 #!/usr/bin/env bash
 # How fast the frames of a replication connection are taken: MB/s of frames_bench beside sha256sum on the same file, in the same run.
-# The file has about 60 MB, made from a seed: transactions of a few changes as XLogData frames, and as many keepalives. With a folder, as frames.sh FOLDER,
-# its files NAME.wire (bytes that a server sent behind CopyBothResponse) come first, each whole. Fails where pieces of 64 KiB are taken slower than
-# sha256sum reads, pieces of 100 bytes at less than 0.3 of that, where one frame of 64 MB takes more than three times as long as that file in pieces of 100
-# bytes or of 64 KiB, or where the counts differ from those of the file. Skips where a tool is missing. Wants 200 MB of disk and memory.
+# The file has about 60 MB: ten times a part that is made from a seed, transactions of a few changes as XLogData frames, and as many keepalives. With a
+# folder, as frames.sh FOLDER, its files NAME.wire (bytes that a server sent behind CopyBothResponse) come first, each whole. Fails where pieces of 64 KiB
+# are taken slower than sha256sum reads, or pieces of 100 bytes at less than 0.3 of that; where one frame of 64 MB is taken at less than a third of
+# sha256sum's speed; or where the counts are not those of the file. Skips where a tool is missing. Wants 200 MB of disk and memory.
 set -u
 wires=
 [ $# = 0 ] || wires=$(realpath "$1") || exit 1
@@ -21,7 +21,7 @@ import struct
 import sys
 
 rng = random.Random(60)
-MB = 60_000_000
+PART = 6_000_000
 
 
 def framed(payload):
@@ -49,9 +49,23 @@ def transaction(lsn, xid):
     yield b'C' + struct.pack('>BQQq', 0, lsn, lsn + 48, 0)
 
 
+def part(counts):
+    pieces = []
+    size = 0
+    xid = 0
+    while size < PART:
+        xid += 1
+        for message in transaction(xid * 100, xid):
+            pieces.append(wal(xid * 100, message) + keepalive(xid * 100))
+            size += len(pieces[-1])
+            counts[0] += 10
+            counts[1] += 10 * len(message)
+            counts[2] += 10
+    return b''.join(pieces)
+
+
 counts = [0, 0, 0]
 with open(sys.argv[1] + '/many', 'wb') as out:
-    size = 0
     for path in sorted(glob.glob(sys.argv[2] + '/*.wire')) if sys.argv[2] else []:
         stream = open(path, 'rb').read()
         place = 0
@@ -62,15 +76,8 @@ with open(sys.argv[1] + '/many', 'wb') as out:
             counts[1] += length - 29 if kind == b'dw' else 0
             counts[2] += kind == b'dk'
             place += 1 + length
-        size += out.write(stream)
-    xid = 0
-    while size < MB:
-        xid += 1
-        for message in transaction(xid * 100, xid):
-            size += out.write(wal(xid * 100, message) + keepalive(xid * 100))
-            counts[0] += 1
-            counts[1] += len(message)
-            counts[2] += 1
+        out.write(stream)
+    out.write(part(counts) * 10)
 with open(sys.argv[1] + '/many.wanted', 'w') as out:
     out.write('frames %d of %d bytes, keepalives %d, rest 0\n' % tuple(counts))
 with open(sys.argv[1] + '/one', 'wb') as out:
@@ -82,12 +89,12 @@ PYTHON
 (cd crates/frames_bench && rt run -- 7 < stdin > /dev/null 2>&1) || { echo "frames.sh: frames_bench does not run"; exit 1; }
 program=crates/frames_bench/out/frames_bench
 
-# seconds FILE WORDS..: the best of five runs, with the file as input
+# seconds FILE WORDS..: the best of three runs, with the file as input
 seconds() {
     file=$1
     shift
     best=
-    for _ in 1 2 3 4 5; do
+    for _ in 1 2 3; do
         start=$(date +%s.%N)
         "$@" < "$folder/$file" > "$folder/answer" || { echo "frames.sh: $1 fails" >&2; exit 1; }
         end=$(date +%s.%N)
