@@ -1,0 +1,6 @@
+pub mod ErrorScan
+pub mod FrameLaws
+pub mod Refusals
+pub mod CuttingLaws
+pub mod Looking
+pub mod Reading

@@ -1,0 +1,36 @@
+-- What the rules by which frames are read mean for the bytes that a server writes.
+use Rattle.std.specs.Prelude.{◌≡◌, ℕ, ◌+◌, ◌<◌, ◌≤◌, ◌^◌, List, ◌∷◌, ◌++◌, length, Bool, true, Option, Some, Ok, if◌then◌else◌}
+use Rattle.byte_format.specs.Format.{int32}
+use Rattle.pg_wire.specs.declared.frame.Frame.{Frame}
+use Rattle.pg_wire.specs.declared.frame.Frame.TheVariants.{Wal, Keepalive}
+use Rattle.pg_wire.specs.declared.frame.TheConstants.{LONGEST}
+use Rattle.pg_wire.specs.FrameList.{wal, keepalive, copy_data, content, is_type, may_be, Whole, whole_at, with_size, front, Unfinished}
+
+-- a frame's bytes: type byte, length and payload
+abbrev pub frame_bytes : ℕ → List ℕ → List ℕ
+frame_bytes kind payload = kind ∷ int32.spell (4 + length payload) ++ payload
+
+-- the type byte is known, the payload may stand behind it, and the length is within the limit
+pub record IsWhole (kind : ℕ) (payload : List ℕ) : Type 0 where
+  pub known : is_type kind ≡ true
+  pub may : may_be kind (length payload) payload ≡ true
+  pub short : 4 + length payload ≤ LONGEST
+
+-- A frame's bytes are read as one frame of their size, with what its payload gives, whatever follows.
+abbrev pub WholeFrames : Type 0
+WholeFrames = (place kind : ℕ) (payload more : List ℕ) → IsWhole kind payload → front place (frame_bytes kind payload ++ more) ≡ with_size (5 + length payload) (content place kind payload)
+
+-- The payload of an XLogData gives its two positions and its message.
+abbrev pub WalPayloads : Type 0
+WalPayloads = (start end time : ℕ) (message : List ℕ) → start < 2 ^ 64 → end < 2 ^ 64 → time < 2 ^ 64 → copy_data (119 ∷ (wal.spell (start, (end, time)) ++ message)) ≡ Some (Wal start end message)
+
+-- The payload of a keepalive gives its position and whether a reply is wanted.
+abbrev pub KeepalivePayloads : Type 0
+KeepalivePayloads = (end time : ℕ) (wanted : Bool) → end < 2 ^ 64 → time < 2 ^ 64 → copy_data (107 ∷ keepalive.spell (end, (time, if wanted then 1 else 0))) ≡ Some (Keepalive end wanted)
+
+abbrev pub found : ℕ × ℕ → Whole
+found x = Ok (Some x)
+
+-- Each proper prefix of a whole frame is unfinished, of C and E with any payload.
+abbrev pub Prefixes : Type 0
+Prefixes = (place : ℕ) (bytes more : List ℕ) (x : ℕ × ℕ) → whole_at place (bytes ++ more) ≡ found x → length bytes < 5 + x.1 → front place bytes ≡ Unfinished
