@@ -30,9 +30,10 @@ shown_if s rows h = rw h refl
 pub leads_over : (s : Knows) (lsn j : ℕ) (kind : ChangeKind) (es : List Entry) → IsTest s → is_truncate kind ≡ false → is_bad s (old_of kind) ≡ false → is_bad s (new_of kind) ≡ false → es ≡ emit s lsn (own s j kind) → LeadsOver s kind es
 leads_over s lsn j kind es test whole old new is rows fits there after truths =
     let truths_after = truths_changed s (own s j kind) rows (record { whole = whole; old = old; new = new }) there truths in
-    let folds = fold-emit s lsn (own s j kind) rows test whole there (keyed_from s rows test fits) (keyed_from s (changed kind rows) test after) in
-    (ap (option_and_then (fold_from es)) (shown_if s rows truths) ∙ ap (λ (xs : List Entry). fold_from xs (map_of s rows)) is ∙ folds ∙ sym (shown_if s (changed kind rows) truths_after),
-    subst IsSome (sym (shown_if s (changed kind rows) truths_after)) refl)
+    let folds = fold-emit s lsn (own s j kind) rows test whole there (keyed_from s rows test fits) (keyed_from s (changed kind rows) test after) in (
+      ap (option_and_then (fold_from es)) (shown_if s rows truths) ∙ ap (λ (xs : List Entry). fold_from xs (map_of s rows)) is ∙ folds ∙ sym (shown_if s (changed kind rows) truths_after),
+      subst IsSome (sym (shown_if s (changed kind rows) truths_after)) refl,
+    )
 
 any_none : (b c : Bool) → (b || c) ≡ false → (b ≡ false) × (c ≡ false)
 any_none true c h = cc

@@ -80,10 +80,13 @@ less_last p m n lt = rw (false_from (p == m) (λ e. let same = (Decides-eqb p m)
 
 null_kept : (key : List ℕ) (row : Values) (p : ℕ) (o : Option ℕ) → is_null (slice_index_or row p Null) ≡ false → IsNullKey key row o → IsNullKey (key ++ p ∷ []) row o
 null_kept key row p None given h = lacks_more key row p ∙ or_right _ _ h given
-null_kept key row p (Some c) given h = (lacks_more key row p ∙ rw h.0 refl, record {
-  passes = ap (λ b. b && is_null (slice_index_or row c Null)) (any_more key c p) ∙ some_more (list_any (λ q. q == c) key) (p == c) _ h.1.passes;
-  least = λ m lt. ap (λ b. b && is_null (slice_index_or row m Null)) (any_more key m p) ∙ none_more (list_any (λ q. q == m) key) (p == m) _ (h.1.least m lt) (other_last row p m (p == m) refl given);
-})
+null_kept key row p (Some c) given h = (
+  lacks_more key row p ∙ rw h.0 refl,
+  record {
+    passes = ap (λ b. b && is_null (slice_index_or row c Null)) (any_more key c p) ∙ some_more (list_any (λ q. q == c) key) (p == c) _ h.1.passes;
+    least = λ m lt. ap (λ b. b && is_null (slice_index_or row m Null)) (any_more key m p) ∙ none_more (list_any (λ q. q == m) key) (p == m) _ (h.1.least m lt) (other_last row p m (p == m) refl given);
+  },
+)
 
 lacks_last : (a b : Bool) → b ≡ true → (a || b) ≡ true
 lacks_last true b h = refl

@@ -190,13 +190,7 @@ impl<T: RowTest> Emitter<T> {
         }))
     }
 
-    fn inserted(
-        &self,
-        alloc: Global,
-        new: &Row,
-        lsn: u64,
-        j: u64,
-    ) -> Result<Emitted, EmitError>
+    fn inserted(&self, alloc: Global, new: &Row, lsn: u64, j: u64) -> Result<Emitted, EmitError>
         requires new { length new.now ≡ length (T.knows self.now.test).definition.columns }
         requires small { j < 2 ^ 63 }
         ensures entries { IfOk result (λ e. in_order e ≡ entries_of lsn j None (pick (T.knows self.now.test) (Some new.now))) }
@@ -210,13 +204,7 @@ impl<T: RowTest> Emitter<T> {
         Ok(Emitted::one(self.insert(alloc, new, lsn, 2 * j)?))
     }
 
-    fn deleted(
-        &self,
-        alloc: Global,
-        old: &Row,
-        lsn: u64,
-        j: u64,
-    ) -> Result<Emitted, EmitError>
+    fn deleted(&self, alloc: Global, old: &Row, lsn: u64, j: u64) -> Result<Emitted, EmitError>
         requires old { length old.now ≡ length (T.knows self.now.test).definition.columns }
         requires small { j < 2 ^ 63 }
         ensures entries { IfOk result (λ e. in_order e ≡ entries_of lsn j (pick (T.knows self.now.test) (Some old.now)) None) }
