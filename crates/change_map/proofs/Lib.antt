@@ -1,0 +1,4 @@
+pub mod CellLaws
+pub mod KeyLaws
+pub mod Places
+pub mod Entries
