@@ -20,7 +20,7 @@ use Rattle.tx_assembler.specs.declared.answer.AssembleError.{AssembleError}
 use Rattle.tx_assembler.specs.declared.answer.AssembleError.TheVariants as errors
 use Rattle.tx_assembler.specs.Answers.{Answer, next, Refuses}
 use Rattle.tx_assembler.specs.Kept.{Came, table_named, definition_of, change_under, target_of, truncated, bytes_of_some, bytes_kept, place_of_definition, with_change_at, with_change, with_changes, with_bytes}
-use Rattle.tx_assembler.specs.Situation.{most_bytes}
+use Rattle.tx_assembler.specs.Whole.{most_bytes}
 use Rattle.tx_assembler.specs.Feeding.{within_limit, grown, taken_by}
 use Rattle.tx_assembler.specs.Taking.{IsTaken, HasMore, definition_at, with_one, served_under, some_served, truncation, truncations}
 
@@ -225,7 +225,7 @@ oids_size : (oids : List ℕ) → length (flat_map int32.spell oids) ≡ 4 * len
 oids_size [] = refl
 oids_size (oid ∷ oids) = omega (arith, oids_size oids)
 
-truncate_size : (options : ℕ) (oids : List ℕ) → length (spelled (messages.Truncate options oids)) ≡ 6 + 4 * length oids
+pub truncate_size : (options : ℕ) (oids : List ℕ) → length (spelled (messages.Truncate options oids)) ≡ 6 + 4 * length oids
 truncate_size options oids = omega (arith, oids_size oids)
 
 pub truncate_taken : {A : Type 0} (result : Result A AssembleError) (old new : Tx) (target : ℕ → Option (Option TableDef)) (options : ℕ) (oids slice : List ℕ) → slice ≡ oids

@@ -15,7 +15,8 @@ use Rattle.tx_assembler.specs.declared.stage.Stage.TheVariants.{Outside, Passing
 use Rattle.tx_assembler.specs.Answers.{Answer, next, is_memory, Refuses}
 use Rattle.tx_assembler.specs.Rows.{relation_of}
 use Rattle.tx_assembler.specs.Kept.{Came, target_of, changes_of, bytes_kept, with_changes, with_bytes}
-use Rattle.tx_assembler.specs.Situation.{Situation, most_bytes}
+use Rattle.tx_assembler.specs.Situation.{Situation}
+use Rattle.tx_assembler.specs.Whole.{most_bytes}
 
 -- the situation after a message, and what is answered
 abbrev pub Turn : Type 0

@@ -7,6 +7,7 @@ ghost use Rattle.relation_cache.specs.Relations.{ByOid};
 ghost use Rattle.tx_assembler.specs.declared.stage.Stage.TheVariants as stages;
 ghost use Rattle.tx_assembler.specs.Answers.{Gives, next};
 ghost use Rattle.tx_assembler.specs.Rows.{relation_of};
+ghost use Rattle.tx_assembler.specs.Whole.{IsWholeFed};
 ghost use Rattle.tx_assembler.specs.Feeding.{opened, begun, committed, changed, related, received, turn_of, may_begin, may_end, same_lsn, IsTurned, IsFed};
 
 use super::answer::{AssembleError, Fed};
@@ -82,7 +83,8 @@ impl Assembler {
     /// A refusal but want of memory ends the transaction and stands until `reopen`; want of memory leaves the assembler as it was.
     pub fn feed(&mut self, message: Message) -> Result<Fed, AssembleError>
         requires { Fits message }
-        ensures { IsFed self.old message result self.new }
+        ensures fed { IsFed self.old message result self.new }
+        ensures whole { IfOk result IsWholeFed }
     {
         match self.receive(message) {
             Ok(fed) => Ok(fed),
@@ -97,7 +99,8 @@ impl Assembler {
 
     fn receive(&mut self, message: Message) -> Result<Fed, AssembleError>
         requires { Fits message }
-        ensures { IsTurned self.old (turn_of self.old message) result self.new }
+        ensures turned { IsTurned self.old (turn_of self.old message) result self.new }
+        ensures whole { IfOk result IsWholeFed }
     {
         if let Stage::Refused(error) = self.stage {
             return Err(error);
@@ -127,7 +130,8 @@ impl Assembler {
     }
 
     fn begin(&mut self, lsn: u64, xid: u32) -> Result<Fed, AssembleError>
-        ensures { IsTurned self.old (begun self.old self.old.stage lsn xid) result self.new }
+        ensures turned { IsTurned self.old (begun self.old self.old.stage lsn xid) result self.new }
+        ensures whole { IfOk result IsWholeFed }
     {
         check_begin(&self.stage)?;
         self.stage = opened(self.alloc, self.last, lsn, xid);
@@ -135,7 +139,8 @@ impl Assembler {
     }
 
     fn commit(&mut self, lsn: u64, end: u64) -> Result<Fed, AssembleError>
-        ensures { IsTurned self.old (committed self.old self.old.stage lsn end) result self.new }
+        ensures turned { IsTurned self.old (committed self.old self.old.stage lsn end) result self.new }
+        ensures whole { IfOk result IsWholeFed }
     {
         check_end(&self.stage, lsn)?;
         match mem::replace(&mut self.stage, Stage::Outside) {
@@ -158,7 +163,8 @@ impl Assembler {
         name: Octets,
         columns: ColumnsSent,
     ) -> Result<Fed, AssembleError>
-        ensures { IsTurned self.old (next (relation_of oid ns name columns) (related self.old)) result self.new }
+        ensures turned { IsTurned self.old (next (relation_of oid ns name columns) (related self.old)) result self.new }
+        ensures whole { IfOk result IsWholeFed }
     {
         let relation = relation_of(self.alloc, oid, ns, name, columns)?;
         self.relations.put(relation)?;
@@ -167,11 +173,18 @@ impl Assembler {
 
     fn change(&mut self, kind: u8, message: Message) -> Result<Fed, AssembleError>
         requires { Fits message }
-        ensures { IsTurned self.old (changed self.old self.old.stage kind message) result self.new }
+        ensures turned { IsTurned self.old (changed self.old self.old.stage kind message) result self.new }
+        ensures whole { IfOk result IsWholeFed }
     {
         match &mut self.stage {
-            Stage::Outside => Err(AssembleError::OutOfOrder { have: 0, got: kind }),
-            Stage::Passing { .. } => Ok(Fed::Nothing),
+            Stage::Outside => {
+                drop(message);
+                Err(AssembleError::OutOfOrder { have: 0, got: kind })
+            }
+            Stage::Passing { .. } => {
+                drop(message);
+                Ok(Fed::Nothing)
+            }
             Stage::Taking(tx) => {
                 take(
                     self.alloc,
@@ -182,7 +195,10 @@ impl Assembler {
                 )?;
                 Ok(Fed::Nothing)
             }
-            Stage::Refused(error) => Err(*error),
+            Stage::Refused(error) => {
+                drop(message);
+                Err(*error)
+            }
         }
     }
 }

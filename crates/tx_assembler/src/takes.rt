@@ -5,7 +5,7 @@ ghost use Rattle.pgout.specs.declared.message.Message.TheVariants as messages;
 ghost use Rattle.pgout.specs.Grammar.{Fits, spelled, tuple};
 ghost use Rattle.tx_assembler.specs.Answers.{Gives, next};
 ghost use Rattle.tx_assembler.specs.Kept.{inserted, update_of, updated, delete_of, deleted, bytes_of_some, target_of, truncated, with_changes};
-ghost use Rattle.tx_assembler.specs.Situation.{most_bytes};
+ghost use Rattle.tx_assembler.specs.Whole.{most_bytes};
 ghost use Rattle.tx_assembler.specs.Feeding.{within_limit, grown, taken_by};
 ghost use Rattle.tx_assembler.specs.Taking.{IsTaken, HasMore, definition_at, with_one, row_bytes, served_under, some_served, truncation, truncations};
 
@@ -37,7 +37,7 @@ impl From<UnknownRelation> for AssembleError {
 }
 
 /// The bytes of the kept messages with so many more.
-#[tactic(auto, unfolding(crate::specs::Situation::most_bytes))]
+#[tactic(auto, unfolding(crate::specs::Whole::most_bytes))]
 fn bytes_with(bytes: u64, more: u64) -> Result<u64, AssembleError>
     requires small { bytes ≤ most_bytes }
     requires few { more < 4611686018427387904 }
