@@ -9,3 +9,16 @@ pub mod Plays
 pub mod Seen
 pub mod Writing
 pub mod Blocks
+pub mod Fronts
+pub mod Offsets
+pub mod Following
+pub mod Taken
+pub mod WholeTable
+pub mod Reached
+pub mod Pieces
+pub mod Streams
+pub mod Courses
+pub mod Steps
+pub mod Rights
+pub mod Sizes
+pub mod Heads

@@ -87,11 +87,11 @@ ask_is s e none closed full is = ask_by s e s.exchange none closed full is
 
 -- ---- a message
 
-settle_by : (log : List Entry) (closed : List Exchange) (ex : Option Exchange) → list_all is_answered closed ≡ true → map (answered (Some log)) (with_exchange closed ex) ≡ with_exchange closed (option_map (answered (Some log)) ex)
+pub settle_by : (log : List Entry) (closed : List Exchange) (ex : Option Exchange) → list_all is_answered closed ≡ true → map (answered (Some log)) (with_exchange closed ex) ≡ with_exchange closed (option_map (answered (Some log)) ex)
 settle_by log closed None h = ap (map (answered (Some log))) (sym (append-nil closed)) ∙ settled_last (Some log) closed [] h ∙ append-nil closed
 settle_by log closed (Some e) h = settled_last (Some log) closed (e ∷ []) h
 
-same_number : (f : Exchange → Exchange) (ex : Option Exchange) (n : ℕ) → number_of ex n ≡ number_of (option_map f ex) n
+pub same_number : (f : Exchange → Exchange) (ex : Option Exchange) (n : ℕ) → number_of ex n ≡ number_of (option_map f ex) n
 same_number f None n = refl
 same_number f (Some e) n = refl
 

@@ -12,3 +12,4 @@ pub mod Stages
 pub mod Reading
 pub mod Playing
 pub mod Running
+pub mod Headline

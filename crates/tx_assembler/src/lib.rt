@@ -16,6 +16,3 @@ mod transactions;
 
 pub use answer::{AssembleError, Fed};
 pub use assembler::Assembler;
-
-#[cfg(test)]
-mod cases;
