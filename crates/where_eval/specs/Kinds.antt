@@ -33,8 +33,8 @@ kind_of_part c (BoolOf b) = Some kinds.Boolean
 kind_of_part c NullOf = None
 
 abbrev pub or_kind : Option Kind → Kind → Kind
-or_kind None other = other
-or_kind (Some kind) other = kind
+or_kind None behind = behind
+or_kind (Some kind) behind = kind
 
 -- the first kind from the left among parts that is not open, or text
 abbrev pub common : List Column → List Tree → Kind
@@ -98,7 +98,7 @@ is_of_class kinds.Other kind = false
 
 abbrev pub is_open_or : Kind → Option Kind → Bool
 is_open_or kind None = true
-is_open_or kind (Some other) = is_of_class kind other
+is_open_or kind (Some second) = is_of_class kind second
 
 -- a part that may stand where the kind is asked for
 abbrev pub suits : List Column → Kind → Tree → Bool
