@@ -1,0 +1,11 @@
+use Rattle.std.proofs.Common.{◌≡◌, ◌++◌, List, length}
+use Rattle.where_eval.specs.declared.leaves.Leaf.{Leaf}
+use Rattle.where_eval.proofs.Seeing.{IsReadSoFar}
+use Rattle.where_eval.proofs.check.kinds_read.Given as goal
+
+-- what is read of the leaves before those that are left
+abbrev pub invariant-loop-leaf : goal.invariant-loop-leaf
+invariant-loop-leaf l = IsReadSoFar l.columns l.leaves l.left l.kinds.items
+
+abbrev pub decreases-loop-leaf : goal.decreases-loop-leaf
+decreases-loop-leaf l = length l.left

@@ -1,0 +1,13 @@
+use Rattle.std.proofs.Common.{◌≡◌}
+use Rattle.std.specs.List.{list_all}
+use Rattle.where_parser.specs.declared.expr.Exprs.{size-Exprs}
+use Rattle.where_parser.specs.View.{trees_of}
+use Rattle.where_eval.specs.Leaves.{listed}
+use Rattle.where_eval.specs.Kinds.{common, suits}
+use Rattle.where_eval.proofs.kinds.all_suit.Given as goal
+
+abbrev pub invariant-loop-left : goal.invariant-loop-left
+invariant-loop-left l = list_all (suits l.columns l.kind) (listed (trees_of l.left)) ≡ list_all (suits l.columns l.kind) (listed (trees_of l.list))
+
+abbrev pub decreases-loop-left : goal.decreases-loop-left
+decreases-loop-left l = size-Exprs l.left

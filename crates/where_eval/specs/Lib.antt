@@ -1,0 +1,15 @@
+pub mod Logic
+pub mod Like
+pub mod Scalars
+pub mod Leaves
+pub mod Kinds
+pub mod Faults
+pub mod Truth
+pub mod Plans
+pub mod Walks
+pub mod Data
+pub mod Passing
+pub mod MemberFaults
+pub mod Compiled
+pub mod Checked
+pub mod Laws

@@ -1,0 +1,183 @@
+//! From the tree of a clause to its plan.
+ghost use Rattle.std.specs.Prelude.{◌≡◌, IfOk, map};
+ghost use Rattle.shape_base.specs.Tables.{Values};
+ghost use Rattle.where_grammar.specs.Tree.{NameOf};
+ghost use Rattle.where_eval.specs.Scalars.{read_under};
+ghost use Rattle.where_eval.specs.Plans.{meaning, meanings, scalar_of};
+ghost use Rattle.where_eval.specs.Truth.{values_of};
+ghost use Rattle.where_parser.specs.View.{tree_of, trees_of};
+ghost use Rattle.where_eval.specs.Compiled.{Compiles, AllCompile};
+
+use crate::columns::{kind_at, place_of};
+use crate::constant::Constant;
+use crate::datum::{Datum, read};
+use crate::kinds::{kind_of_list, kind_of_three, kind_of_two};
+use crate::like::pieces;
+use crate::plan::{Plan, Plans};
+use pg_values::kind::Kind;
+use shape_base::memory::{Duplicate, OutOfMemory};
+use shape_base::row::Columns;
+use shape_base::text::Text;
+use std::alloc::Global;
+use where_parser::expr::{Expr, Exprs, IsTest};
+
+/// The constant that a string is under a kind.
+fn constant(alloc: Global, text: &Text, kind: Kind) -> Result<Constant, OutOfMemory>
+    ensures { IfOk result (λ constant. scalar_of constant ≡ read_under kind text.now) }
+{
+    match read(text, kind) {
+        Datum::Null => Ok(Constant::Null),
+        Datum::Truth(truth) => Ok(Constant::Truth(truth)),
+        Datum::Number(number) => Ok(Constant::Number(number)),
+        Datum::Words(text) => Ok(Constant::Words(text.copy(alloc)?)),
+        Datum::Id(id) => Ok(Constant::Id(id)),
+    }
+}
+
+fn column(columns: &Columns, kind: Kind, name: &Text) -> Plan
+    ensures { Compiles columns.now kind result (NameOf name.now) }
+{
+    match place_of(columns, name) {
+        Some(place) => Plan::Column {
+            place,
+            kind: kind_at(columns, place),
+        },
+        None => Plan::Read(Constant::Null),
+    }
+}
+
+/// The chain of the plans, in their order.
+fn chain(alloc: Global, mut members: Vec<Plan>) -> Result<Plans, OutOfMemory>
+    ensures { IfOk result (λ chain. (row : Values) → meanings chain row ≡ map (λ p. meaning p row) members.items) }
+{
+    let mut rest = Plans::End;
+    while let Some(member) = members.pop() {
+        rest = Plans::More {
+            first: Box::new(alloc, member)?,
+            rest: Box::new(alloc, rest)?,
+        };
+    }
+    Ok(rest)
+}
+
+#[cycle(compile)]
+fn members(
+    alloc: Global,
+    columns: &Columns,
+    kind: Kind,
+    list: &Exprs,
+) -> Result<Vec<Plan>, OutOfMemory>
+    ensures { IfOk result (λ members. (row : Values) → map (λ p. meaning p row) members.items ≡ values_of columns.now row kind (trees_of list.now)) }
+{
+    let mut members = Vec::new(alloc);
+    let mut left = list;
+    while let Exprs::More { first, rest } = left {
+        match compile(alloc, columns, kind, first) {
+            Ok(member) => members.push(member)?,
+            Err(error) => return Err(error),
+        }
+        left = rest;
+    }
+    Ok(members)
+}
+
+/// The plans of the members of a list.
+#[cycle(compile)]
+fn compile_all(
+    alloc: Global,
+    columns: &Columns,
+    kind: Kind,
+    list: &Exprs,
+) -> Result<Plans, OutOfMemory>
+    ensures { IfOk result (λ chain. AllCompile columns.now kind chain (trees_of list.now)) }
+{
+    chain(alloc, members(alloc, columns, kind, list)?)
+}
+
+#[cycle(compile)]
+fn boxed(
+    alloc: Global,
+    columns: &Columns,
+    kind: Kind,
+    expr: &Expr,
+) -> Result<Box<Plan>, OutOfMemory>
+    ensures { IfOk result (λ boxed. Compiles columns.now kind boxed.value (tree_of expr.now)) }
+{
+    Ok(Box::new(alloc, compile(alloc, columns, kind, expr)?)?)
+}
+
+/// The plan of a part; a string is read under the kind.
+#[cycle(compile)]
+pub fn compile(
+    alloc: Global,
+    columns: &Columns,
+    kind: Kind,
+    expr: &Expr,
+) -> Result<Plan, OutOfMemory>
+    ensures { IfOk result (λ plan. Compiles columns.now kind plan (tree_of expr.now)) }
+{
+    match expr {
+        Expr::Or(list) => Ok(Plan::Any(compile_all(alloc, columns, Kind::Boolean, list)?)),
+        Expr::And(list) => Ok(Plan::All(compile_all(alloc, columns, Kind::Boolean, list)?)),
+        Expr::Not(inner) => Ok(Plan::Not(boxed(alloc, columns, Kind::Boolean, inner)?)),
+        Expr::Is { left, not, test } => {
+            let kind = match test {
+                IsTest::Null => Kind::Text,
+                _ => Kind::Boolean,
+            };
+            Ok(Plan::Is {
+                left: boxed(alloc, columns, kind, left)?,
+                not: *not,
+                test: *test,
+            })
+        }
+        Expr::Distinct { left, not, right } => {
+            let kind = kind_of_two(columns, left, right);
+            Ok(Plan::Distinct {
+                left: boxed(alloc, columns, kind, left)?,
+                not: *not,
+                right: boxed(alloc, columns, kind, right)?,
+            })
+        }
+        Expr::Cmp { op, left, right } => {
+            let kind = kind_of_two(columns, left, right);
+            Ok(Plan::Cmp {
+                op: *op,
+                left: boxed(alloc, columns, kind, left)?,
+                right: boxed(alloc, columns, kind, right)?,
+            })
+        }
+        Expr::Within { left, not, list } => {
+            let kind = kind_of_list(columns, left, list);
+            Ok(Plan::Within {
+                left: boxed(alloc, columns, kind, left)?,
+                not: *not,
+                list: compile_all(alloc, columns, kind, list)?,
+            })
+        }
+        Expr::Between {
+            left,
+            not,
+            low,
+            high,
+        } => {
+            let kind = kind_of_three(columns, left, low, high);
+            Ok(Plan::Between {
+                left: boxed(alloc, columns, kind, left)?,
+                not: *not,
+                low: boxed(alloc, columns, kind, low)?,
+                high: boxed(alloc, columns, kind, high)?,
+            })
+        }
+        Expr::Like { left, not, pattern } => Ok(Plan::Like {
+            left: boxed(alloc, columns, Kind::Text, left)?,
+            not: *not,
+            pattern: pieces(alloc, pattern.as_str())?,
+        }),
+        Expr::Name(name) => Ok(column(columns, kind, name)),
+        Expr::Int(number) => Ok(Plan::Read(Constant::Number(*number))),
+        Expr::Quoted(text) => Ok(Plan::Read(constant(alloc, text, kind)?)),
+        Expr::Bool(truth) => Ok(Plan::Read(Constant::Truth(*truth))),
+        Expr::Null => Ok(Plan::Read(Constant::Null)),
+    }
+}

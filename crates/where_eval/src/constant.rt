@@ -1,0 +1,11 @@
+use shape_base::text::Text;
+
+/// A constant of a clause, read under the kind that its place asks for.
+#[derive(Drop)]
+pub enum Constant {
+    Null,
+    Truth(bool),
+    Number(i64),
+    Words(Text),
+    Id(u128),
+}
