@@ -1,11 +1,10 @@
 -- How a script of the first profile goes: at each front of its records the situation is one of these, and what is printed is right.
-use Rattle.std.proofs.Common.{◌≡◌, ℕ, zero, suc, ◌+◌, ◌<◌, ◌≤◌, Bool, true, false, List, [], ◌∷◌, ◌++◌, length, take, map, refl, sym, ap, subst, ◌∙◌, arith, ◌⊎◌, inl, inr, Option, Some, None}
-use Rattle.std.specs.Prelude.{◌&&◌, ◌==◌, slice_get, is_none, is_some, if◌then◌else◌}
+use Rattle.std.proofs.Common.{◌≡◌, ℕ, zero, suc, ◌+◌, Bool, true, false, List, [], ◌∷◌, ◌++◌, length, take, map, refl, sym, ap, subst, ◌∙◌, arith, ◌⊎◌, inl, inr, Option, Some, None}
+use Rattle.std.specs.Prelude.{slice_get, if◌then◌else◌}
 use Rattle.std.specs.List.{list_all, AllByRecursion}
-use Rattle.std.specs.Option.{option_map}
 use Rattle.std.proofs.lemmas.List.{append-nil}
 use Rattle.pgout.specs.declared.message.Message.{Message}
-use Rattle.shape_base.specs.declared.row.Offset.TheVariants.{Start, At}
+use Rattle.shape_base.specs.declared.row.Offset.TheVariants.{At}
 use Rattle.shape_base.specs.declared.row.Entry.{Entry}
 use Rattle.shape_base.specs.declared.served.Served.{Served}
 use Rattle.shape_base.specs.declared.history.History.{History}
@@ -15,37 +14,30 @@ use Rattle.shape_base.specs.Log.{fold, end_of}
 use Rattle.tx_assembler.specs.Shown.{shown, or_else}
 use Rattle.shape_replay.specs.declared.record.Record.{Record}
 use Rattle.shape_replay.specs.declared.record.Record.TheVariants as records
-use Rattle.shape_replay.specs.declared.record.Snapshot.{Snapshot}
 use Rattle.shape_replay.specs.declared.record.Declaration.{Declaration}
 use Rattle.shape_replay.specs.declared.exchange.Page.{Page}
 use Rattle.shape_replay.specs.declared.exchange.Exchange.{Exchange}
 use Rattle.shape_replay.specs.declared.stream.Stream.{Stream}
-use Rattle.shape_replay.specs.declared.stream.Step.{Step}
 use Rattle.shape_replay.specs.Script.{Item}
 use Rattle.shape_replay.specs.Record.{record_of}
 use Rattle.shape_replay.specs.Tabled.{Tabled}
-use Rattle.shape_replay.specs.Profile.{table_of, query_of, is_empty_snapshot}
+use Rattle.shape_replay.specs.Profile.{table_of, query_of}
 use Rattle.shape_replay.specs.Stream.{start, streamed}
 use Rattle.std.specs.FinMap as fin
 use Rattle.shape_base.specs.declared.row.Tx.{Tx}
 use Rattle.shape_base.specs.Tables.{table_after}
 use Rattle.shape_base.specs.Shape.{Knows, Map, shape_rows}
-use Rattle.shape_base.specs.Log.{fold_from, entries_past, point, last_offset}
-use Rattle.shape_base.proofs.Tests.{both_true, both_are}
-use Rattle.shape_replay.specs.Page.{is_answered, answered, entries_in, end_after}
-use Rattle.shape_replay.specs.Run.{Folding, new_client, Situation, empty, Out, Block, End, Turn, Goes, Ends, Refuses, folded, taken, take_reply, with_table, add_client, watch_with, with_snapshot, with_message, after_record, after_some, turn_of}
+use Rattle.shape_base.specs.Log.{fold_from, entries_past}
+use Rattle.shape_replay.specs.Page.{is_answered, entries_in, end_after}
+use Rattle.shape_replay.specs.Run.{Folding, new_client, Situation, empty, Out, Block, Turn, Goes, Ends, Refuses, folded, with_table, after_record}
 use Rattle.shape_replay.specs.Stages.{number_of, with_exchange, first_exchange, IsAhead}
 use Rattle.shape_replay.specs.Headline.{table_then, tables_in, message_then, messages_in, stream_of, commits_in, whole_of, IsDeclared, IsTold, reach, AreRowsOf, after, has_reply, is_replied, count_if, given_at, told, IsRight}
-use Rattle.shape_replay.proofs.Fronts.{messages-append, tables-append, given_last, given_next, after_next}
-use Rattle.shape_replay.proofs.Following.{Follows, AreGiven, all_txs, later, same_given, carried, asks, grown, last_is, longer, open_of}
-use Rattle.shape_replay.proofs.Taken.{takes, spoiled, spoiled_on, taken_folds, reply_of, given_below}
+use Rattle.shape_replay.proofs.Fronts.{messages-append, tables-append, given_next}
+use Rattle.shape_replay.proofs.Following.{Follows, AreGiven, all_txs, later, same_given, longer}
+use Rattle.shape_replay.proofs.Taken.{taken_folds, reply_of, given_below}
 use Rattle.shape_replay.proofs.Reached.{rows_are, reach_is}
-use Rattle.shape_replay.proofs.Offsets.{rises-append, last-append}
-use Rattle.shape_replay.proofs.Joins.{joins}
-use Rattle.shape_replay.proofs.Settling.{settled_last}
-use Rattle.shape_replay.proofs.Turns.{settle_by, same_number}
 use Rattle.shape_replay.proofs.WholeTable.{IsTabled, table_is}
-use Rattle.shape_replay.proofs.Streams.{IsNamed, IsStreamed, Streams, sizes, shown_by, StreamStart, StreamLaw}
+use Rattle.shape_replay.proofs.Streams.{IsNamed, IsStreamed, shown_by}
 
 -- ---- where a script stands
 

@@ -1,27 +1,23 @@
 -- A client and its exchanges beside a log that grows, in general: each reply is a front of the log at so many commits, and the rows are the fold of a front.
-use Rattle.std.proofs.Common.{◌≡◌, ℕ, zero, suc, ◌+◌, ◌-◌, ◌<◌, ◌≤◌, Bool, true, false, cond, List, [], ◌∷◌, ◌++◌, length, take, drop, map, refl, sym, ap, subst, ◌∙◌, arith, ◌⊎◌, inl, inr, Option, Some, None}
+use Rattle.std.proofs.Common.{◌≡◌, ℕ, zero, suc, ◌+◌, ◌<◌, ◌≤◌, Bool, true, false, List, [], ◌∷◌, ◌++◌, length, take, refl, sym, ap, subst, ◌∙◌, arith, ◌⊎◌, inl, inr, Option, Some, None}
 use Rattle.std.specs.Prelude.{◌&&◌, ◌==◌, slice_get, if◌then◌else◌, is_some}
-use Rattle.std.specs.List.{list_all}
-use Rattle.std.specs.Option.{option_map, option_and_then}
+use Rattle.std.specs.Option.{option_map}
 use Rattle.std.proofs.lemmas.List.{length-append, append-nil}
-use Rattle.std.proofs.lemmas.Bool.{cases_lt}
 use Rattle.shape_base.specs.declared.row.Offset.{Offset}
 use Rattle.shape_base.specs.declared.row.Offset.TheVariants.{Start, At}
 use Rattle.shape_base.specs.declared.row.Entry.{Entry}
 use Rattle.shape_base.specs.declared.row.Tx.{Tx}
 use Rattle.shape_base.specs.Offsets.{is_before, rises_after, upto}
-use Rattle.shape_base.specs.Shape.{Knows, Map}
-use Rattle.shape_base.specs.Log.{fold, fold_from, last_offset, end_of, entries_past}
-use Rattle.shape_base.proofs.Commits.{fold_from-append}
+use Rattle.shape_base.specs.Shape.{Knows}
+use Rattle.shape_base.specs.Log.{fold, end_of, entries_past}
 use Rattle.tx_assembler.specs.Shown.{or_else}
 use Rattle.shape_replay.specs.declared.exchange.Page.{Page}
 use Rattle.shape_replay.specs.declared.exchange.Exchange.{Exchange}
-use Rattle.shape_replay.specs.Page.{entries_in, end_from, end_after, page_past, answer_of, is_answered, answered}
+use Rattle.shape_replay.specs.Page.{page_past, answer_of, is_answered, answered}
 use Rattle.shape_replay.specs.Run.{Folding, folded}
 use Rattle.shape_replay.specs.Stages.{with_exchange}
 use Rattle.shape_replay.specs.Headline.{is_replied, count_if}
-use Rattle.shape_replay.proofs.Folds.{part_front}
-use Rattle.shape_replay.proofs.Offsets.{upto_front, upto_start, last-append}
+use Rattle.shape_replay.proofs.Offsets.{upto_front, upto_start}
 
 -- the offset is the end of the first entries of the log
 abbrev pub StandsAt : Offset → ℕ → List Entry → Type 0

@@ -1,6 +1,5 @@
 -- Records, front by front.
-use Rattle.std.proofs.Common.{◌≡◌, ℕ, Bool, true, false, List, [], ◌∷◌, ◌++◌, map, refl, sym, ◌∙◌, ap, append_assoc, Option, Some, None}
-use Rattle.std.specs.List.{AllByRecursion}
+use Rattle.std.proofs.Common.{◌≡◌, ℕ, List, [], ◌∷◌, ◌++◌, map, refl, ◌∙◌, ap, append_assoc, Option, Some, None}
 use Rattle.std.proofs.lemmas.List.{map-append}
 use Rattle.pgout.specs.declared.message.Message.{Message}
 use Rattle.shape_base.specs.declared.served.Served.{Served}
@@ -11,7 +10,7 @@ use Rattle.shape_replay.specs.Script.{Item}
 use Rattle.shape_replay.specs.Record.{record_of}
 use Rattle.shape_replay.specs.Tabled.{Tabled}
 use Rattle.shape_replay.specs.Profile.{table_of}
-use Rattle.shape_replay.specs.Run.{Situation, empty, Out, Turn, Goes, Ends, Refuses, turn_of, Played, with_outs, after_turn, run_of}
+use Rattle.shape_replay.specs.Run.{Situation, empty, Out, Turn, Goes, Ends, Refuses, turn_of, Played, after_turn, run_of}
 use Rattle.shape_replay.specs.Headline.{declared_then, table_then, tables_in, message_then, messages_in, commits_in, if_goes, after, has_reply, count_if, given_at, told_turn, told}
 
 -- ---- one record more

@@ -22,3 +22,4 @@ pub mod Steps
 pub mod Rights
 pub mod Sizes
 pub mod Heads
+pub mod Worked

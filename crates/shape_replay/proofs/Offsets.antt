@@ -1,12 +1,12 @@
 -- Where offsets stand in a log that grows.
-use Rattle.std.proofs.Common.{◌≡◌, ℕ, zero, suc, ◌+◌, ◌≤◌, Bool, true, false, cond, List, [], ◌∷◌, ◌++◌, length, take, refl, sym, ap, subst, ◌∙◌, arith}
+use Rattle.std.proofs.Common.{◌≡◌, ℕ, zero, suc, ◌≤◌, Bool, true, List, [], ◌∷◌, ◌++◌, length, take, refl, ap, ◌∙◌, arith}
 use Rattle.std.specs.Bool.{if◌then◌else◌}
 use Rattle.std.proofs.lemmas.Bool.Decides.{nat_tests}
 use Rattle.shape_base.specs.declared.row.Offset.{Offset}
 use Rattle.shape_base.specs.declared.row.Offset.TheVariants.{Start, At}
 use Rattle.shape_base.specs.declared.row.Entry.{Entry}
 use Rattle.shape_base.specs.Offsets.{is_before, rises_after, upto}
-use Rattle.shape_base.specs.Log.{last_offset, end_of}
+use Rattle.shape_base.specs.Log.{last_offset}
 use Rattle.shape_base.proofs.Tests.{both_true, both_are, false_from}
 
 pub before_trans : (a b c : Offset) → is_before a b ≡ true → is_before b c ≡ true → is_before a c ≡ true

@@ -1,9 +1,7 @@
 -- What is folded up to some commits is what the table shows at the client's reach.
-use Rattle.std.proofs.Common.{◌≡◌, ℕ, zero, suc, ◌+◌, ◌-◌, ◌<◌, ◌≤◌, max, Bool, true, false, List, [], ◌∷◌, ◌++◌, length, take, drop, map, refl, sym, ap, subst, ◌∙◌, arith, inl, inr, Option, Some, None}
-use Rattle.std.specs.Prelude.{◌%◌, ◌&&◌, ◌||◌, ◌==◌, not, nat_lt, nat_le, slice_get, if◌then◌else◌, IsSome}
+use Rattle.std.proofs.Common.{◌≡◌, ℕ, zero, suc, ◌+◌, ◌<◌, ◌≤◌, true, false, List, [], ◌∷◌, ◌++◌, length, take, map, refl, sym, ap, subst, ◌∙◌, arith, inl, inr, Option, Some, None}
+use Rattle.std.specs.Prelude.{◌%◌, not, nat_lt, nat_le, slice_get, if◌then◌else◌, IsSome}
 use Rattle.std.specs.List.{list_any, AllByRecursion, range_with_len, filter, flat_map}
-use Rattle.std.specs.Option.{option_map, option_to_list}
-use Rattle.std.specs.FinMap as fin
 use Rattle.std.proofs.lemmas.Bool.{cases_lt}
 use Rattle.std.proofs.lemmas.Bool.Decides.{nat_tests}
 use Rattle.shape_base.specs.declared.row.Entry.{Entry}
@@ -14,10 +12,10 @@ use Rattle.shape_base.specs.declared.row.Tx.{Tx}
 use Rattle.shape_base.specs.declared.served.Served.{Served}
 use Rattle.shape_base.specs.declared.history.History.{History}
 use Rattle.shape_base.specs.Tables.{Own, own_of, own_from, changes_of, table_after, commits_of}
-use Rattle.shape_base.specs.Visibility.{Visibility, full, is_visible, is_visible_id}
-use Rattle.shape_base.specs.Snapshot.{Snapshot, IsTakenAt, IsHonest}
+use Rattle.shape_base.specs.Visibility.{full, is_visible, is_visible_id}
+use Rattle.shape_base.specs.Snapshot.{IsTakenAt, IsHonest}
 use Rattle.shape_base.specs.Shape.{Knows, Map, emit, stops, shape_rows}
-use Rattle.shape_base.specs.Log.{fold, log_of, log_taken, unseen, entries_past, point}
+use Rattle.shape_base.specs.Log.{fold, log_of, unseen, entries_past, point}
 use Rattle.shape_base.proofs.LogLaw.{log_fold}
 use Rattle.shape_base.proofs.SameLog.{same_log}
 use Rattle.shape_base.proofs.Growing.{point_rises}
@@ -28,7 +26,7 @@ use Rattle.shape_replay.specs.Script.{Item}
 use Rattle.shape_replay.specs.Tabled.{Tabled}
 use Rattle.shape_replay.specs.Stream.{is_unseen}
 use Rattle.shape_replay.specs.Run.{Situation, empty, Folding}
-use Rattle.shape_replay.specs.Headline.{stream_of, whole_of, snapshot_of, IsDeclared, IsTold, given_at, is_open, taken_by, taken_after, after, points, greatest, reach, AreRowsOf}
+use Rattle.shape_replay.specs.Headline.{stream_of, whole_of, snapshot_of, IsDeclared, IsTold, given_at, is_open, taken_by, taken_after, after, points, greatest, reach}
 use Rattle.shape_replay.proofs.WholeTable.{IsTabled, is_test}
 use Rattle.shape_replay.proofs.Following.{AreGiven}
 

@@ -1,17 +1,13 @@
 -- Each block that a script prints is right.
-use Rattle.std.proofs.Common.{◌≡◌, ℕ, zero, suc, ◌+◌, ◌-◌, ◌*◌, ◌<◌, ◌≤◌, Bool, true, false, List, [], ◌∷◌, ◌++◌, length, take, drop, map, refl, sym, ap, subst, ◌∙◌, arith, append_assoc, Option, Some, None}
-use Rattle.std.specs.Prelude.{◌==◌, if◌then◌else◌, codes}
+use Rattle.std.proofs.Common.{◌≡◌, ℕ, ◌+◌, ◌≤◌, List, [], ◌∷◌, ◌++◌, map, refl, sym, ap, subst, ◌∙◌, arith, append_assoc, Some}
 use Rattle.std.specs.List.{AllByRecursion}
-use Rattle.std.specs.Option.{option_map}
-use Rattle.std.proofs.lemmas.List.{length-append, length-drop}
 use Rattle.pgout.specs.declared.message.Message.{Message}
-use Rattle.pgout.specs.Grammar.{spelled}
 use Rattle.shape_base.specs.Outside.{AddsFront}
 use Rattle.shape_base.specs.declared.history.History.{History}
-use Rattle.shape_replay.specs.Script.{Item, item_at, items_of}
+use Rattle.shape_replay.specs.Script.{Item}
 use Rattle.shape_replay.specs.Text.{text_of}
 use Rattle.shape_replay.specs.Run.{Situation, empty, Out, Turn, Goes, Ends, Refuses, turn_of, run_of}
-use Rattle.shape_replay.specs.Headline.{tables_in, messages_in, after, told_turn, told, IsRight, IsHeadline}
+use Rattle.shape_replay.specs.Headline.{messages_in, after, told_turn, told, IsRight, IsHeadline}
 use Rattle.shape_replay.proofs.Fronts.{messages-append, after_next, told_outs}
 use Rattle.shape_replay.proofs.Streams.{sizes, StreamStart, StreamLaw}
 use Rattle.shape_replay.proofs.Courses.{Place, Blank, situation_at, Holds, GoesOn}

@@ -1,7 +1,7 @@
 -- The steps of a script from its snapshot on.
-use Rattle.std.proofs.Common.{◌≡◌, ℕ, zero, suc, ◌+◌, ◌<◌, ◌≤◌, Bool, true, false, List, [], ◌∷◌, ◌++◌, length, map, refl, sym, ap, subst, ◌∙◌, arith, ◌⊎◌, inl, inr, Option, Some, None}
-use Rattle.std.specs.Prelude.{◌&&◌, ◌==◌, slice_get, is_none, is_some, if◌then◌else◌}
-use Rattle.std.specs.List.{list_all, AllByRecursion}
+use Rattle.std.proofs.Common.{◌≡◌, ℕ, zero, suc, ◌≤◌, Bool, true, false, List, [], ◌∷◌, ◌++◌, length, map, refl, sym, ap, subst, ◌∙◌, arith, ◌⊎◌, inl, inr, Option, Some, None}
+use Rattle.std.specs.Prelude.{◌==◌, slice_get, is_none, if◌then◌else◌}
+use Rattle.std.specs.List.{list_all}
 use Rattle.std.specs.Option.{option_map}
 use Rattle.std.specs.FinMap as fin
 use Rattle.pgout.specs.declared.message.Message.{Message}
@@ -12,8 +12,8 @@ use Rattle.shape_base.specs.declared.row.Tx.{Tx}
 use Rattle.shape_base.specs.declared.served.Served.{Served}
 use Rattle.shape_base.specs.declared.history.History.{History}
 use Rattle.shape_base.specs.Offsets.{rises_after}
-use Rattle.shape_base.specs.Shape.{Knows, Map}
-use Rattle.shape_base.specs.Log.{fold, fold_from, end_of, last_offset, entries_past}
+use Rattle.shape_base.specs.Shape.{Map}
+use Rattle.shape_base.specs.Log.{fold, fold_from, end_of, entries_past}
 use Rattle.shape_base.proofs.Tests.{both_true, both_are}
 use Rattle.tx_assembler.specs.Shown.{shown, or_else}
 use Rattle.shape_replay.specs.declared.record.Record.{Record}
@@ -29,19 +29,18 @@ use Rattle.shape_replay.specs.Tabled.{Tabled}
 use Rattle.shape_replay.specs.Profile.{is_empty_snapshot}
 use Rattle.shape_replay.specs.Stream.{start, streamed}
 use Rattle.shape_replay.specs.Page.{is_answered, answered, entries_in, end_after}
-use Rattle.shape_replay.specs.Run.{Folding, new_client, Situation, empty, Out, Block, End, Turn, Goes, Ends, Refuses, folded, taken, take_page, take_reply, watch_with, with_snapshot, with_message, after_record, after_some, turn_of}
-use Rattle.shape_replay.specs.Stages.{number_of, with_exchange, first_exchange, IsAhead}
-use Rattle.shape_replay.specs.Headline.{table_then, tables_in, message_then, messages_in, stream_of, commits_in, whole_of, after, is_replied, given_at, told_turn, told, IsRight}
-use Rattle.shape_replay.proofs.Fronts.{messages-append, tables-append, after_next}
+use Rattle.shape_replay.specs.Run.{Folding, new_client, Situation, empty, Block, End, Turn, Goes, Ends, Refuses, folded, taken, take_page, take_reply, watch_with, with_message, after_record, after_some, turn_of}
+use Rattle.shape_replay.specs.Stages.{number_of, with_exchange, IsAhead}
+use Rattle.shape_replay.specs.Headline.{table_then, message_then, messages_in, stream_of, commits_in, whole_of, after, given_at}
+use Rattle.shape_replay.proofs.Fronts.{messages-append, after_next}
 use Rattle.shape_replay.proofs.Following.{Follows, later, carried, asks, grown, last_is, open_of}
 use Rattle.shape_replay.proofs.Taken.{takes, spoiled, spoiled_on}
 use Rattle.shape_replay.proofs.Offsets.{rises-append, last-append}
 use Rattle.shape_replay.proofs.Joins.{joins}
 use Rattle.shape_replay.proofs.Settling.{settled_last}
 use Rattle.shape_replay.proofs.Turns.{settle_by, same_number}
-use Rattle.shape_replay.proofs.WholeTable.{IsTabled}
-use Rattle.shape_replay.proofs.Streams.{IsNamed, IsStreamed, Streams, sizes, shown_by, StreamStart, StreamLaw}
-use Rattle.shape_replay.proofs.Courses.{Place, Blank, Declared, Met, Asked, Ready, situation_at, IsEarly, IsReady, GoesWell, Holds, GoesOn, Leads, given_after, same_tables, same_messages, StepsOn, ready_is, counted, ready_next, block_right, at_blank, at_declared, at_met}
+use Rattle.shape_replay.proofs.Streams.{IsStreamed, Streams, sizes, shown_by, StreamStart, StreamLaw}
+use Rattle.shape_replay.proofs.Courses.{Place, Blank, Declared, Met, Asked, Ready, situation_at, IsEarly, IsReady, GoesWell, Holds, GoesOn, Leads, given_after, same_tables, same_messages, ready_is, counted, ready_next, block_right, at_blank, at_declared, at_met}
 
 -- ---- a reply is taken
 
@@ -232,7 +231,7 @@ at_ready law h k items item t c closed asking log stream (records.Message m) rea
     messaged law h k items item t c closed asking log stream m (streamed t stream m) ready is (subst (λ (ms : List Message). sizes ms ≤ 67108864) (message_next items item m is) small) refl leads
 at_ready law h k items item t c closed asking log stream records.End ready is small leads = ended h k (items ++ item ∷ []) t c closed asking log stream (is_none stream.pending) (length (with_exchange closed asking))
 
-abbrev first_reply : Exchange
+abbrev pub first_reply : Exchange
 first_reply = record { asked = Start; live = false; reply = Some (record { from = 0; to = 0 }) }
 
 begun_given : (tables : List Served) (items : List Item) (item : Item) (next : Situation) (e : ℕ) → ((e : ℕ) → given_at tables e [] items ≡ None) → after empty (items ++ item ∷ []) ≡ Some next → next.exchanges ≡ first_reply ∷ [] → messages_in (items ++ item ∷ []) ≡ []

@@ -1,6 +1,6 @@
 -- What the messages of the first profile show.
-use Rattle.std.proofs.Common.{◌≡◌, ℕ, zero, suc, ◌+◌, ◌*◌, ◌<◌, ◌≤◌, max, Bool, true, false, List, [], ◌∷◌, ◌++◌, length, map, refl, sym, ap, subst, ◌∙◌, arith, append_assoc, Option, Some, None}
-use Rattle.std.specs.Prelude.{◌&&◌, ◌||◌, ◌==◌, not, nat_le, nat_lt, is_none, is_some, slice_index_or, if◌then◌else◌, codes, Result, Ok, Err}
+use Rattle.std.proofs.Common.{◌≡◌, ℕ, suc, ◌+◌, ◌*◌, ◌<◌, ◌≤◌, max, Bool, true, false, List, [], ◌∷◌, ◌++◌, length, map, refl, sym, ap, subst, ◌∙◌, arith, append_assoc, Option, Some, None}
+use Rattle.std.specs.Prelude.{◌&&◌, ◌||◌, ◌==◌, not, nat_le, nat_lt, is_none, is_some, slice_index_or, if◌then◌else◌, codes, Ok, Err}
 use Rattle.std.specs.List.{list_all, list_any, flat_map, AllByRecursion}
 use Rattle.std.specs.Option.{option_map}
 use Rattle.std.specs.Str.{is_utf8}
@@ -23,30 +23,30 @@ use Rattle.shape_base.specs.declared.row.ChangeKind.TheVariants as kinds
 use Rattle.shape_base.specs.declared.row.Entry.{Entry}
 use Rattle.shape_base.specs.declared.row.Tx.{Tx}
 use Rattle.shape_base.specs.declared.served.Served.{Served}
-use Rattle.shape_base.specs.Tables.{Values, Own, same_text, same_def, is_null, key_values, lacks_key, own_of, own_from, changes_of}
-use Rattle.shape_base.specs.Shape.{Knows, quoted, words_of, key_text, keyed, cells_of, insert_at, emit, stops}
+use Rattle.shape_base.specs.Tables.{Values, Own, same_text, same_def, is_null, key_values, lacks_key, own_from, changes_of}
+use Rattle.shape_base.specs.Shape.{Knows, quoted, words_of, key_text, cells_of, insert_at, emit, stops}
 use Rattle.shape_base.specs.Log.{entries_past}
-use Rattle.shape_base.proofs.Tests.{both_true, both_are, false_from, Decides-same_text, Decides-same_def}
+use Rattle.shape_base.proofs.Tests.{both_true, Decides-same_text, Decides-same_def}
 use Rattle.relation_cache.specs.declared.relation.Relation as described
 use Rattle.tx_assembler.specs.declared.answer.AssembleError.{AssembleError}
 use Rattle.tx_assembler.specs.declared.answer.AssembleError.TheVariants as errors
-use Rattle.tx_assembler.specs.Answers.{Answer, next}
+use Rattle.tx_assembler.specs.Answers.{next}
 use Rattle.tx_assembler.specs.Rows as rows
 use Rattle.tx_assembler.specs.Whole.{most_bytes}
 use Rattle.tx_assembler.specs.Kept as kept
 use Rattle.tx_assembler.specs.Kept.{Came, bytes_kept, bytes_of_some, with_changes}
-use Rattle.tx_assembler.specs.Feeding.{empty_tx, within_limit}
-use Rattle.tx_assembler.specs.Shown.{Sent, shown, or_else, described_by, last_relation, is_commit, pieces_of, concat, rest_of, begin_of, lsn_of, lsn_in, xid_in, if_kept, changes_after, changes_in, bytes_in, tx_of, greatest_of, refused_after, taken_from, shown_in}
+use Rattle.tx_assembler.specs.Feeding.{empty_tx}
+use Rattle.tx_assembler.specs.Shown.{Sent, shown, described_by, last_relation, is_commit, pieces_of, concat, rest_of, begin_of, lsn_of, lsn_in, xid_in, if_kept, changes_after, changes_in, bytes_in, tx_of, greatest_of, refused_after, taken_from, shown_in}
 use Rattle.shape_replay.specs.declared.stream.Pending.{Pending}
 use Rattle.shape_replay.specs.declared.stream.Stream.{Stream}
 use Rattle.shape_replay.specs.declared.stream.Step.{Step}
 use Rattle.shape_replay.specs.Tabled.{Tabled}
-use Rattle.shape_replay.specs.Profile.{is_name, repeats, same_sent, value_of, with_value, values_of, is_row, row_if, row_of, key_text_of, entry_of}
-use Rattle.shape_replay.specs.Stream.{is_unseen, start, quietly, begun, related_by, with_change, with_pending, inserted, committed, streamed}
+use Rattle.shape_replay.specs.Profile.{repeats, same_sent, value_of, with_value, values_of, is_row, row_if, row_of, key_text_of, entry_of}
+use Rattle.shape_replay.specs.Stream.{is_unseen, start, quietly, with_change, inserted, committed, streamed}
 use Rattle.shape_replay.specs.Headline.{whole_of}
 use Rattle.shape_replay.proofs.WholeTable.{IsTabled}
 use Rattle.shape_replay.proofs.TableLaws.{name_utf8}
-use Rattle.shape_replay.proofs.Pieces.{all_sent, taken_more, pieces_quiet, rest_quiet, pieces_closed, rest_closed, joined, begin_more, relation_more, changes_more, bytes_more, greatest_more, shown_more, one_shown}
+use Rattle.shape_replay.proofs.Pieces.{all_sent, taken_more, pieces_quiet, rest_quiet, pieces_closed, rest_closed, joined, begin_more, relation_more, changes_more, bytes_more, greatest_more, shown_more}
 
 -- the one served table, with the declared names
 pub record IsNamed (tables : List Served) (served : Served) (t : Tabled) : Type 0 where
@@ -123,7 +123,7 @@ stream_start tables served t named tabled = record { leads = refl; hidden = tt; 
 
 -- ---- what is shown, by pieces
 
-shown_is : (tables : List Served) (ms : List Message) → taken_from tables 0 [] ms ≡ ms → shown_by tables ms ≡ shown_in tables [] 0 (pieces_of ms)
+pub shown_is : (tables : List Served) (ms : List Message) → taken_from tables 0 [] ms ≡ ms → shown_by tables ms ≡ shown_in tables [] 0 (pieces_of ms)
 shown_is tables ms whole =
     ap (λ (xs : List Message). shown_in tables [] 0 (pieces_of (taken_from tables 0 [] xs)) ++ []) (all_sent ms)
     ∙ ap (λ (xs : List Message). shown_in tables [] 0 (pieces_of xs) ++ []) whole ∙ append-nil (shown_in tables [] 0 (pieces_of ms))

@@ -61,7 +61,7 @@ name_utf8 name h = IsUtf8-from_ascii name (lower_ascii name (both_true _ _ h).1)
 pub key_utf8 : (front words bytes : List ℕ) → bytes ≡ front ++ quoted words → IsUtf8 front → IsUtf8 words → IsUtf8 bytes
 key_utf8 front words bytes e h k = subst IsUtf8 (sym e) (IsUtf8-append front (quoted words) h (IsUtf8-quoted words k))
 
-one_ascii : (b : ℕ) → b < 128 → IsUtf8 (b ∷ [])
+pub one_ascii : (b : ℕ) → b < 128 → IsUtf8 (b ∷ [])
 one_ascii b h = IsUtf8-from_ascii (b ∷ []) (IsAscii-cons b [] h IsAscii-nil)
 
 dot_utf8 : (xs : List ℕ) → IsUtf8 xs → IsUtf8 (46 ∷ xs)

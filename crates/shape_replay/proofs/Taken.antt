@@ -1,7 +1,6 @@
 -- What taking a reply does to a client that follows a log.
-use Rattle.std.proofs.Common.{◌≡◌, ℕ, zero, suc, ◌+◌, ◌-◌, ◌<◌, ◌≤◌, Bool, true, false, List, [], ◌∷◌, ◌++◌, length, take, drop, refl, sym, ap, subst, ◌∙◌, arith, ◌⊎◌, inl, inr, Option, Some, None}
+use Rattle.std.proofs.Common.{◌≡◌, ℕ, zero, suc, ◌+◌, ◌-◌, ◌≤◌, true, List, [], ◌∷◌, ◌++◌, length, take, refl, sym, ap, subst, ◌∙◌, arith, inl, inr, Option, Some, None}
 use Rattle.std.specs.Option.{option_and_then}
-use Rattle.std.proofs.lemmas.List.{length-append}
 use Rattle.std.proofs.lemmas.Bool.{cases_lt}
 use Rattle.std.specs.FinMap as fin
 use Rattle.shape_base.specs.declared.row.Offset.{Offset}
@@ -10,7 +9,7 @@ use Rattle.shape_base.specs.declared.row.Entry.{Entry}
 use Rattle.shape_base.specs.declared.row.Tx.{Tx}
 use Rattle.shape_base.specs.Offsets.{is_before, rises_after}
 use Rattle.shape_base.specs.Shape.{Knows, Map}
-use Rattle.shape_base.specs.Log.{fold, fold_from, last_offset, end_of, entries_past}
+use Rattle.shape_base.specs.Log.{fold, fold_from, last_offset, end_of}
 use Rattle.shape_base.proofs.Commits.{fold_from-append}
 use Rattle.shape_base.proofs.Tests.{both_true}
 use Rattle.shape_replay.specs.declared.exchange.Page.{Page}
@@ -19,7 +18,7 @@ use Rattle.shape_replay.specs.Page.{entries_in, end_from, end_after}
 use Rattle.shape_replay.specs.Run.{Folding, folded}
 use Rattle.shape_replay.proofs.Folds.{part_front}
 use Rattle.shape_replay.proofs.Offsets.{before_trans, last-append}
-use Rattle.shape_replay.proofs.Following.{Follows, StandsAt, IsReply, HasReply, HasOpen, AreGiven, longer, front_stays, all_entries}
+use Rattle.shape_replay.proofs.Following.{Follows, StandsAt, IsReply, HasReply, HasOpen, AreGiven, longer, all_entries}
 
 -- the front up to the end of a page is the front before it, and the page
 page_joins : (log : List Entry) (page : Page) → page.from ≤ page.to → take page.to log ≡ take page.from log ++ entries_in log page

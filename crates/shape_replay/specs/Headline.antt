@@ -1,14 +1,12 @@
 -- The headline: whenever the client is up to date, its rows are the shape's rows of the table after the committed prefix that it has reached.
-use Rattle.std.specs.Prelude.{◌≡◌, ℕ, ◌==◌, max, Bool, true, false, not, if◌then◌else◌, List, [], ◌∷◌, ◌++◌, length, map, filter, Option, None, Some, slice_get}
+use Rattle.std.specs.Prelude.{◌≡◌, ℕ, ◌==◌, max, Bool, false, not, if◌then◌else◌, List, [], ◌∷◌, ◌++◌, length, map, filter, Option, None, Some, slice_get}
 use Rattle.std.specs.List.{AllByRecursion, flat_map, range_with_len}
 use Rattle.std.specs.Option.{option_map, option_to_list}
 use Rattle.std.specs.FinMap as fin
 use Rattle.pgout.specs.declared.message.Message.{Message}
-use Rattle.shape_base.specs.declared.row.Tx.{Tx}
 use Rattle.shape_base.specs.declared.served.Served.{Served}
 use Rattle.shape_base.specs.declared.history.History.{History}
 use Rattle.shape_base.specs.Tables.{Table, table_after, IsGoodHistory}
-use Rattle.shape_base.specs.Visibility.{Visibility}
 use Rattle.shape_base.specs.Snapshot.{Snapshot, IsHonest}
 use Rattle.shape_base.specs.Shape.{Knows, Keyed, Map, name_at, plain_knows, shape_rows}
 use Rattle.shape_base.specs.Log.{point}

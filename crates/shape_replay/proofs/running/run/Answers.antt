@@ -1,9 +1,5 @@
-use Rattle.shape_replay.specs.declared.stop.Stop.{Stop}
 use Rattle.shape_replay.specs.declared.stop.Stop.TheVariants as stops
-use Rattle.std.proofs.Common.{◌≡◌, sym, ◌∙◌, ap, subst}
-use Rattle.shape_replay.specs.Text.{text_of}
-use Rattle.shape_replay.specs.Playing.{played_in, played_from, Wrote}
-use Rattle.std.specs.Prelude.{Result, Err}
+use Rattle.std.proofs.Common.{◌≡◌, sym, ◌∙◌, ap}
 use Rattle.shape_replay.specs.Running.{status_of}
 use Rattle.shape_replay.proofs.Writing.{front_of}
 use Rattle.shape_replay.proofs.Heads.{headline_in, headline_read, read_fault, wrote_read}
