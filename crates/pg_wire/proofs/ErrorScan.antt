@@ -1,5 +1,5 @@
 -- The fields of an ErrorResponse, read one by one.
-use Rattle.std.proofs.Common.{◌≡◌, ℕ, zero, suc, ◌-◌, ◌+◌, ◌≤◌, ◌<◌, Bool, true, false, cond, eqb, List, [], ◌∷◌, ◌++◌, length, Option, None, Some, Result, Ok, Err, refl, sym, ap, ◌∙◌, arith}
+use Rattle.std.proofs.Common.{◌≡◌, ℕ, zero, suc, ◌-◌, ◌+◌, ◌≤◌, ◌<◌, Bool, true, false, cond, eqb, List, [], ◌∷◌, length, Option, None, Some, Result, Ok, Err, refl, sym, ap, ◌∙◌, arith}
 use Rattle.byte_format.specs.Format.{Read, ◌>>=◌, string_at}
 use Rattle.byte_format.specs.Whole.{ended}
 use Rattle.pg_wire.specs.ErrorFields.{Field, fields_at, code_in, code_read, sqlstate_of, found_by}

@@ -1,13 +1,12 @@
 -- What stands first, from its type byte, its size and its payload.
-use Rattle.std.proofs.Common.{◌≡◌, ◌⊎◌, inl, inr, ℕ, ◌+◌, ◌-◌, ◌≤◌, List, length, take, drop, Option, None, Some, Ok, Err, refl, sym, ap, ◌∙◌, arith}
+use Rattle.std.proofs.Common.{◌≡◌, ◌⊎◌, inl, inr, ℕ, ◌+◌, List, take, drop, None, Some, Ok, Err, sym, ap, ◌∙◌, arith}
 use Rattle.std.specs.Prelude.{slice_range}
 use Rattle.std.proofs.lemmas.List.{drop-take}
 use Rattle.pg_wire.specs.declared.frame.FrameError.{FrameError}
 use Rattle.pg_wire.specs.declared.frame.FrameError.TheVariants as errors
 use Rattle.pg_wire.specs.declared.content.Content.{Content}
-use Rattle.pg_wire.specs.FrameList.{Whole, whole_at, content, with_size, front_of, front, Unfinished, Framed, Refused}
+use Rattle.pg_wire.specs.FrameList.{whole_at, content, with_size, front_of, front, Unfinished, Framed, Refused}
 use Rattle.pg_wire.specs.Contents.{shown}
-use Rattle.pg_wire.proofs.FrameLaws.{whole_size}
 
 pub open_first : (place : ℕ) (bytes : List ℕ) → whole_at place bytes ≡ Ok None → front place bytes ≡ Unfinished
 unfolding front

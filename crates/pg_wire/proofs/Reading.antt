@@ -1,15 +1,13 @@
 -- The bytes that a server writes are read.
-use Rattle.std.proofs.Common.{◌≡◌, inl, inr, ℕ, ◌+◌, ◌-◌, ◌^◌, ◌<◌, ◌≤◌, Bool, true, false, cond, ltb, List, ◌∷◌, ◌++◌, length, take, drop, Option, None, Some, Result, Ok, Err, refl, sym, ap, ◌∙◌, append_assoc, arith}
+use Rattle.std.proofs.Common.{◌≡◌, inl, inr, ℕ, ◌+◌, ◌-◌, ◌^◌, ◌<◌, ◌≤◌, true, false, ltb, List, ◌∷◌, ◌++◌, length, take, drop, refl, sym, ap, ◌∙◌, append_assoc, arith}
 use Rattle.std.specs.Int.{w32, to_be_bytes, from_be_bytes}
 use Rattle.std.proofs.lemmas.Bool.{le-ltb}
 use Rattle.std.proofs.lemmas.List.{take_at, drop_at, length-append}
-use Rattle.byte_format.specs.Format.{Read}
-use Rattle.byte_format.specs.Whole.{whole}
 use Rattle.byte_format.proofs.Codec.{IsCodec, wide32, int64_is, byte_is, pair_is}
 use Rattle.byte_format.proofs.Wholes.{whole_again}
 use Rattle.pg_wire.specs.declared.frame.TheConstants.{LONGEST}
-use Rattle.pg_wire.specs.FrameList.{wal, keepalive, wal_frame, keepalive_frame, copy_data, content, is_type, may_be, Whole, payload_at, length_at, whole_at, with_size, front_of, front, Unfinished}
-use Rattle.pg_wire.specs.Laws.{frame_bytes, IsWhole, WholeFrames, WalPayloads, KeepalivePayloads, Prefixes, found}
+use Rattle.pg_wire.specs.FrameList.{wal, keepalive, wal_frame, keepalive_frame, copy_data, content, payload_at, length_at, whole_at, with_size, front_of, front}
+use Rattle.pg_wire.specs.Laws.{IsWhole, WholeFrames, WalPayloads, KeepalivePayloads, Prefixes, found}
 use Rattle.pg_wire.proofs.FrameLaws.{whole_size, whole_stays, may}
 use Rattle.pg_wire.proofs.Looking.{open_first}
 

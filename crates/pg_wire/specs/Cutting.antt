@@ -3,7 +3,7 @@ use Rattle.std.specs.Prelude.{◌≡◌, ℕ, ◌+◌, List, [], ◌∷◌, ◌+
 use Rattle.pg_wire.specs.declared.frame.Frame.{Frame}
 use Rattle.pg_wire.specs.declared.frame.FrameError.{FrameError}
 use Rattle.pg_wire.specs.Reached.{Reached}
-use Rattle.pg_wire.specs.FrameList.{Front, Unfinished, Framed, front, Held, held_from}
+use Rattle.pg_wire.specs.FrameList.{Unfinished, Framed, front, Held, held_from}
 use Rattle.pg_wire.specs.declared.frames.Step.{Step}
 use Rattle.pg_wire.specs.declared.frames.Step.TheVariants as steps
 

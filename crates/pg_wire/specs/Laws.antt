@@ -1,7 +1,6 @@
 -- What the rules by which frames are read mean for the bytes that a server writes.
-use Rattle.std.specs.Prelude.{◌≡◌, ℕ, ◌+◌, ◌<◌, ◌≤◌, ◌^◌, List, ◌∷◌, ◌++◌, length, Bool, true, Option, Some, Ok, if◌then◌else◌}
+use Rattle.std.specs.Prelude.{◌≡◌, ℕ, ◌+◌, ◌<◌, ◌≤◌, ◌^◌, List, ◌∷◌, ◌++◌, length, Bool, true, Some, Ok, if◌then◌else◌}
 use Rattle.byte_format.specs.Format.{int32}
-use Rattle.pg_wire.specs.declared.frame.Frame.{Frame}
 use Rattle.pg_wire.specs.declared.frame.Frame.TheVariants.{Wal, Keepalive}
 use Rattle.pg_wire.specs.declared.frame.TheConstants.{LONGEST}
 use Rattle.pg_wire.specs.FrameList.{wal, keepalive, copy_data, content, is_type, may_be, Whole, whole_at, with_size, front, Unfinished}

@@ -1,5 +1,5 @@
 -- How far a stream was taken.
-use Rattle.std.specs.Prelude.{◌≡◌, refl, ℕ, List}
+use Rattle.std.specs.Prelude.{refl, ℕ, List}
 use Rattle.std.specs.Coded.{Coded, code_by, coded×, coded_list, coded_ℕ}
 
 -- the place of the first byte that was not taken, from 0, and the bytes that were fed from there on

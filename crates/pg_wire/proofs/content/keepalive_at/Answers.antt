@@ -1,4 +1,4 @@
-use Rattle.std.proofs.Common.{◌∷◌, ℕ, List, Result, sym, subst}
+use Rattle.std.proofs.Common.{◌∷◌, ℕ, Result, sym, subst}
 use Rattle.pg_wire.specs.FrameList.{keepalive_frame}
 use Rattle.pg_wire.specs.Contents.{IsShown}
 use Rattle.pg_wire.proofs.content.keepalive_at.Goals as goal

@@ -1,4 +1,4 @@
-use Rattle.std.proofs.Common.{◌≡◌, ◌-◌, ◌+◌, ◌<◌, length, sym, ap, ◌∙◌, arith}
+use Rattle.std.proofs.Common.{◌-◌, length, sym, ap, ◌∙◌, arith}
 use Rattle.pg_wire.specs.ErrorFields.{sqlstate_of, seen}
 use Rattle.pg_wire.proofs.ErrorScan.{ran_out, at_zero, not_at_end, no_text, next_field, over}
 use Rattle.pg_wire.proofs.fields.sqlstate_at.Goals as goal
