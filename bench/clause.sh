@@ -33,3 +33,53 @@ large=$(seconds "$folder/large")
 echo "$(wc -c < "$folder/small") bytes: $small s"
 echo "$(wc -c < "$folder/large") bytes: $large s"
 awk -v a="$small" -v b="$large" 'BEGIN { printf "%.1f times the time for ten times the text\n", b / a; exit (b > 12 * a) }'
+
+# Shows that a clause of 8,192 bytes over a row of 100 columns is evaluated at least 2,000 times a second. No member
+# holds, so each is evaluated. The yardstick is awk, with an equal test on as many equal rows.
+cd ../truth_table
+[ -x out/truth_table ] || rt run < /dev/null > /dev/null
+times=4000
+
+# columns: the columns c0 to c99, all integer
+columns() {
+    awk 'BEGIN { printf "columns "; for (i = 0; i < 100; i++) printf "%sc%d 23", i ? "|" : "", i; print "" }'
+}
+
+# row SEPARATOR: a row in which column i holds 1000 + i
+row() {
+    awk -v between="$1" 'BEGIN { for (i = 0; i < 100; i++) printf "%s%d", i ? between : "", 1000 + i; print "" }'
+}
+
+# members WORD FORM: members such as `c7 = 12`, with the word between them, so many that the clause has 8,192 bytes at most
+members() {
+    awk -v word="$1" -v form="$2" 'BEGIN {
+        for (i = 0; ; i++) {
+            length_ += length(sprintf(" OR c%d = %d", i % 100, i))
+            if (length_ - 4 > 8192) break
+            printf "%s" form, i ? " " word " " : "", i % 100 + (form ~ /\$/), i
+        }
+    }'
+}
+
+{ columns; printf 'row '; row '|'; printf 'times %s %s\n' "$times" "$(members OR 'c%d = %d')"; } > "$folder/clause"
+row ' ' | awk -v n="$times" '{ for (i = 0; i < n; i++) print }' > "$folder/rows"
+printf '%s { found++ } END { print found + 0 }\n' "$(members '||' '$%d == %d')" > "$folder/test.awk"
+
+# took COMMAND..: the seconds of its best of three runs; it has to find no row
+took() {
+    best=
+    for _ in 1 2 3; do
+        start=$(date +%s.%N)
+        found=$("$@")
+        end=$(date +%s.%N)
+        [ "$found" = 0 ] || { echo "found: $found" >&2; exit 1; }
+        best=$(awk -v a="$start" -v b="$end" -v c="${best:-1e9}" 'BEGIN { d = b - a; print (d < c) ? d : c }')
+    done
+    echo "$best"
+}
+
+evaluate() { out/truth_table < "$folder/clause"; }
+ours=$(took evaluate)
+theirs=$(took awk -f "$folder/test.awk" "$folder/rows")
+echo "awk: $(awk -v n="$times" -v t="$theirs" 'BEGIN { printf "%d", n / t }') rows a second"
+awk -v n="$times" -v t="$ours" 'BEGIN { printf "truth: %d rows a second\n", n / t; exit (n / t < 2000) }'

@@ -1,11 +1,9 @@
 -- Loops over chains: what is left gives the same answer.
-use Rattle.std.proofs.Common.{◌≡◌, ℕ, Bool, true, false, ◌&&◌, ◌||◌, not, List, [], ◌∷◌, ◌++◌, map, Option, Some, None, refl, sym, ap, ◌∙◌, subst, append_assoc}
-use Rattle.std.specs.List.{list_any, list_all}
+use Rattle.std.proofs.Common.{◌≡◌, List, [], ◌∷◌, ◌++◌, map, Option, refl, sym, ap, ◌∙◌, append_assoc}
 use Rattle.shape_base.specs.declared.row.Tri.{Tri}
 use Rattle.shape_base.specs.declared.row.Tri.TheVariants.{True, False, Unknown}
 use Rattle.shape_base.specs.declared.row.Column.{Column}
-use Rattle.pg_values.specs.declared.kind.Kind.{Kind}
-use Rattle.where_grammar.specs.Tree.{Tree, Trees, TreeAnd, NoTree, trees}
+use Rattle.where_grammar.specs.Tree.{Tree, Trees, TreeAnd}
 use Rattle.where_eval.specs.declared.leaves.Leaf.{Leaf}
 use Rattle.where_eval.specs.Logic.{any_of, all_of, or_of, and_of}
 use Rattle.where_eval.specs.Scalars.{Scalar}

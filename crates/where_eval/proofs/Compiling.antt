@@ -1,5 +1,5 @@
 -- A plan of each form has the meaning of its tree where its parts have.
-use Rattle.std.proofs.Common.{◌≡◌, ℕ, Bool, true, false, List, [], ◌∷◌, ◌++◌, map, Option, Some, None, refl, sym, ap, ◌∙◌, append_assoc}
+use Rattle.std.proofs.Common.{◌≡◌, ℕ, Bool, List, [], ◌∷◌, ◌++◌, map, Option, refl, sym, ap, ◌∙◌, append_assoc}
 use Rattle.std.specs.Str.{chars}
 use Rattle.shape_base.specs.declared.row.Column.{Column}
 use Rattle.shape_base.specs.Tables.{Values}
@@ -8,13 +8,13 @@ use Rattle.pg_values.specs.declared.kind.Kind.TheVariants as kinds
 use Rattle.where_lexer.specs.declared.token.CmpOp.{CmpOp}
 use Rattle.where_lexer.specs.declared.token.CmpOp.TheVariants as ops
 use Rattle.where_grammar.specs.declared.words.IsTest.{IsTest}
-use Rattle.where_grammar.specs.Tree.{Tree, Trees, NoTree, TreeAnd, AnyOf, AllOf, NotOf, IsOf, DistinctOf, Compared, WithinOf, BetweenOf, LikeOf, NameOf, IntOf, QuotedOf, BoolOf, NullOf}
+use Rattle.where_grammar.specs.Tree.{Tree, Trees, TreeAnd, AnyOf, AllOf, NotOf, IsOf, DistinctOf, Compared, WithinOf, BetweenOf, LikeOf}
 use Rattle.where_eval.specs.declared.like.Piece.{Piece}
 use Rattle.where_eval.specs.declared.plan.Plan as plans
 use Rattle.where_eval.specs.declared.plan.Plans as chains
 use Rattle.where_eval.specs.Logic.{of_bool, not_of, all_of, any_of, negated}
 use Rattle.where_eval.specs.Like.{pieces_of}
-use Rattle.where_eval.specs.Scalars.{Scalar, tri_of, of_tri, compared, is_distinct, passes, fits_scalar, read_under}
+use Rattle.where_eval.specs.Scalars.{Scalar, tri_of, of_tri, compared, is_distinct, passes, fits_scalar}
 use Rattle.where_eval.specs.Leaves.{listed}
 use Rattle.where_eval.specs.Kinds.{common}
 use Rattle.where_eval.specs.Truth.{value_of, values_of, kind_of_test}

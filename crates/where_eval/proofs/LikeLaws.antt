@@ -1,10 +1,9 @@
 -- The test of LIKE is its relation.
-use Rattle.std.proofs.Common.{◌≡◌, ◌≢◌, ℕ, Bool, true, false, List, [], ◌∷◌, ◌++◌, ◌==◌, ◌&&◌, ◌||◌, if◌then◌else◌, refl, sym, ap, ◌∙◌, subst, ⊎_elim}
+use Rattle.std.proofs.Common.{◌≡◌, ◌≢◌, ℕ, Bool, true, false, List, [], ◌∷◌, ◌++◌, ◌==◌, ◌&&◌, if◌then◌else◌, refl, sym, ap, ◌∙◌, subst, ⊎_elim}
 use Rattle.std.proofs.lemmas.Bool.{eqb-true, eq-eqb}
 use Rattle.std.proofs.lemmas.Bool.Decides.{eqb_tells}
-use Rattle.where_eval.specs.declared.like.Piece.{Piece}
 use Rattle.where_eval.specs.declared.like.Piece.TheVariants.{Run, One, Exactly}
-use Rattle.where_eval.specs.Like.{percent, underscore, backslash, IsLike, ended, a_run, a_character, escaped, itself, is_cut, is_cut_behind, piece_of, pieces_of, pieces_behind, on_some_end, takes, behind, is_empty, fits}
+use Rattle.where_eval.specs.Like.{percent, underscore, backslash, IsLike, ended, a_run, a_character, escaped, itself, is_cut, is_cut_behind, piece_of, pieces_of, pieces_behind, on_some_end, behind, fits}
 use Rattle.where_eval.proofs.Likes.{begins, either, or_right, and_right}
 
 and_left : (a b : Bool) → (a && b) ≡ true → a ≡ true

@@ -1,5 +1,5 @@
 -- Laws of LIKE: going along what is asked for and the text.
-use Rattle.std.proofs.Common.{◌≡◌, ◌<◌, ◌≤◌, ◌+◌, ℕ, Bool, true, false, ◌&&◌, ◌||◌, List, [], ◌∷◌, length, refl, sym, ap, ◌∙◌, arith, subst}
+use Rattle.std.proofs.Common.{◌≡◌, ◌≤◌, ℕ, Bool, true, false, ◌&&◌, ◌||◌, List, [], ◌∷◌, length, refl, sym, ap, ◌∙◌, arith, subst}
 use Rattle.where_eval.specs.declared.like.Piece.{Piece}
 use Rattle.where_eval.specs.declared.like.Piece.TheVariants.{Run, One, Exactly}
 use Rattle.where_eval.specs.Like.{is_run, takes, behind, on_some_end, fits}

@@ -1,5 +1,5 @@
 -- The loop that looks for faults among members.
-use Rattle.std.proofs.Common.{◌≡◌, ℕ, Bool, true, false, List, [], ◌∷◌, if◌then◌else◌, Option, Some, None, refl, sym, ap, ◌∙◌}
+use Rattle.std.proofs.Common.{◌≡◌, ℕ, List, [], ◌∷◌, Option, Some, None, refl, sym, ap, ◌∙◌}
 use Rattle.shape_base.specs.declared.row.Column.{Column}
 use Rattle.pg_values.specs.declared.kind.Kind.{Kind}
 use Rattle.where_grammar.specs.Tree.{Tree, Trees, NoTree, TreeAnd}

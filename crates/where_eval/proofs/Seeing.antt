@@ -1,5 +1,5 @@
 -- The kinds under which columns are read.
-use Rattle.std.proofs.Common.{◌≡◌, ◌≢◌, ◌≤◌, ◌<◌, ◌+◌, ℕ, zero, suc, Bool, true, false, ◌&&◌, ◌||◌, not, List, [], ◌∷◌, ◌++◌, length, slice_index_or, slice_set, get_or, nat_lt, ◌==◌, if◌then◌else◌, Option, Some, None, refl, sym, ap, ◌∙◌, subst, arith, append_assoc}
+use Rattle.std.proofs.Common.{◌≡◌, ◌≢◌, ◌≤◌, ◌<◌, ◌+◌, ℕ, zero, suc, Bool, true, false, ◌||◌, List, [], ◌∷◌, ◌++◌, length, slice_index_or, slice_set, nat_lt, ◌==◌, if◌then◌else◌, Some, None, refl, sym, ap, ◌∙◌, subst, arith, append_assoc}
 use Rattle.std.proofs.lemmas.List.{get_or_past, get_or-set_same, get_or-set_other, set_past, length-set, append-nil}
 use Rattle.std.proofs.lemmas.Bool.{ltb-true, ltb-false}
 use Rattle.std.proofs.lemmas.Bool.Decides.{eqb_tells}
@@ -12,7 +12,6 @@ use Rattle.shape_base.specs.declared.row.Column.{Column}
 use Rattle.shape_base.specs.declared.row.Tri.{Tri}
 use Rattle.shape_base.specs.declared.row.Value.{Value}
 use Rattle.shape_base.specs.declared.row.Value.TheVariants as values
-use Rattle.shape_base.specs.declared.row_test.BadValue.{BadValue}
 use Rattle.shape_base.specs.Tables.{Values}
 use Rattle.shape_base.specs.Shape.{IsLeast}
 use Rattle.pg_values.specs.declared.kind.Kind.{Kind}
@@ -22,12 +21,12 @@ use Rattle.where_grammar.specs.Tree.{Tree}
 use Rattle.where_eval.specs.declared.leaves.Leaf.{Leaf}
 use Rattle.where_eval.specs.declared.leaves.Leaf.TheVariants as leaf
 use Rattle.where_eval.specs.declared.checked.Checked.{Checked}
-use Rattle.where_eval.specs.Leaves.{leaves, names_place}
+use Rattle.where_eval.specs.Leaves.{names_place}
 use Rattle.where_eval.specs.Kinds.{kind_at}
 use Rattle.where_eval.specs.Plans.{meaning}
 use Rattle.where_eval.specs.Scalars.{tri_of}
 use Rattle.where_eval.specs.Truth.{is_unreadable, unread, truth_in, truth_of}
-use Rattle.where_eval.specs.Checked.{AreRead, kind_read, is_unread, IsChecked, IsTruth, width}
+use Rattle.where_eval.specs.Checked.{AreRead, kind_read, is_unread, IsChecked, width}
 
 -- the kinds read by the leaves before those that are left
 pub record IsReadSoFar (c : List Column) (all left : List Leaf) (read : List Kind) : Type 0 where

@@ -1,5 +1,5 @@
 -- Laws of three-valued truth.
-use Rattle.std.proofs.Common.{◌≡◌, ◌≢◌, ℕ, Bool, true, false, List, [], ◌∷◌, map, Option, Some, None, refl, sym, ap, ◌∙◌, if◌then◌else◌, ◌||◌}
+use Rattle.std.proofs.Common.{◌≡◌, ◌≢◌, Bool, true, false, List, [], ◌∷◌, map, Option, Some, refl, sym, ap, ◌∙◌, if◌then◌else◌, ◌||◌}
 use Rattle.std.specs.List.{list_any}
 use Rattle.shape_base.specs.declared.row.Column.{Column}
 use Rattle.shape_base.specs.declared.row.Tri.{Tri}
@@ -9,7 +9,7 @@ use Rattle.pg_values.specs.declared.kind.Kind.{Kind}
 use Rattle.pg_values.specs.declared.kind.Kind.TheVariants as kinds
 use Rattle.where_lexer.specs.declared.token.CmpOp.{CmpOp}
 use Rattle.where_lexer.specs.declared.token.CmpOp.TheVariants.{Eq, Ge, Le}
-use Rattle.where_grammar.specs.Tree.{Tree, Trees, NoTree, TreeAnd, AnyOf, AllOf, NotOf, Compared, WithinOf, BetweenOf}
+use Rattle.where_grammar.specs.Tree.{Tree, Trees, NoTree, TreeAnd, AnyOf, AllOf, Compared, WithinOf, BetweenOf}
 use Rattle.where_eval.specs.Logic.{of_bool, is_true, is_false, is_unknown, not_of, all_of, any_of, negated}
 use Rattle.where_eval.specs.Scalars.{Scalar, tri_of, of_tri, compared}
 use Rattle.where_eval.specs.Leaves.{listed}

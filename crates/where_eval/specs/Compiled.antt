@@ -1,5 +1,5 @@
 -- A plan has the meaning of a tree.
-use Rattle.std.specs.Prelude.{◌≡◌, List, map}
+use Rattle.std.specs.Prelude.{◌≡◌, List}
 use Rattle.shape_base.specs.declared.row.Column.{Column}
 use Rattle.shape_base.specs.Tables.{Values}
 use Rattle.pg_values.specs.declared.kind.Kind.{Kind}

@@ -1,5 +1,5 @@
 -- The faults of a clause, in their order.
-use Rattle.std.specs.Prelude.{ℕ, Bool, true, false, not, ◌||◌, List, [], ◌∷◌, if◌then◌else◌, Option, Some, None}
+use Rattle.std.specs.Prelude.{ℕ, Bool, not, ◌||◌, List, [], ◌∷◌, if◌then◌else◌, Option, Some, None}
 use Rattle.std.specs.List.{list_all}
 use Rattle.std.specs.Option.{option_map}
 use Rattle.std.specs.Str.{chars}
@@ -12,7 +12,7 @@ use Rattle.where_grammar.specs.Tree.{Tree, Trees, NoTree, TreeAnd, AnyOf, AllOf,
 use Rattle.where_eval.specs.declared.faults.CheckError.{CheckError}
 use Rattle.where_eval.specs.declared.faults.CheckError.TheVariants.{UnknownColumn, TypeMismatch, BadLiteral}
 use Rattle.where_eval.specs.Like.{is_cut}
-use Rattle.where_eval.specs.Leaves.{listed, leaves, stepped, next, unknown_from}
+use Rattle.where_eval.specs.Leaves.{listed, leaves, next, unknown_from}
 use Rattle.where_eval.specs.Kinds.{common, is_other, suits, is_bad_literal}
 
 -- the first of these that is a fault

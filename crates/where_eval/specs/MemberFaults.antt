@@ -1,5 +1,5 @@
 -- What looking for faults among members must answer.
-use Rattle.std.specs.Prelude.{◌≡◌, ℕ, List, Result, Ok, Err, Option, Some, None}
+use Rattle.std.specs.Prelude.{◌≡◌, ℕ, List, Result, Ok, Err, Some, None}
 use Rattle.shape_base.specs.declared.row.Column.{Column}
 use Rattle.pg_values.specs.declared.kind.Kind.{Kind}
 use Rattle.where_grammar.specs.Tree.{Trees}

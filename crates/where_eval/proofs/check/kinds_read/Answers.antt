@@ -1,5 +1,4 @@
-use Rattle.std.proofs.Common.{◌≡◌, slice_set, sym, ap, ◌∙◌}
-use Rattle.where_eval.specs.Kinds.{kind_at}
+use Rattle.std.proofs.Common.{slice_set, ap, ◌∙◌}
 use Rattle.where_eval.proofs.Seeing.{read_column, read_other}
 use Rattle.where_eval.proofs.check.kinds_read.Goals as goal
 

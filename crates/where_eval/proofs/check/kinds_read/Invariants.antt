@@ -1,5 +1,4 @@
-use Rattle.std.proofs.Common.{◌≡◌, ◌++◌, List, length}
-use Rattle.where_eval.specs.declared.leaves.Leaf.{Leaf}
+use Rattle.std.proofs.Common.{length}
 use Rattle.where_eval.proofs.Seeing.{IsReadSoFar}
 use Rattle.where_eval.proofs.check.kinds_read.Given as goal
 

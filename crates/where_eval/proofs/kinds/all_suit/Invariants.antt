@@ -3,7 +3,7 @@ use Rattle.std.specs.List.{list_all}
 use Rattle.where_parser.specs.declared.expr.Exprs.{size-Exprs}
 use Rattle.where_parser.specs.View.{trees_of}
 use Rattle.where_eval.specs.Leaves.{listed}
-use Rattle.where_eval.specs.Kinds.{common, suits}
+use Rattle.where_eval.specs.Kinds.{suits}
 use Rattle.where_eval.proofs.kinds.all_suit.Given as goal
 
 abbrev pub invariant-loop-left : goal.invariant-loop-left

@@ -1,4 +1,4 @@
-use Rattle.std.proofs.Common.{◌≡◌, ◌∷◌, sym, ap, ◌∙◌, arith, length}
+use Rattle.std.proofs.Common.{sym, ap, ◌∙◌, arith, length}
 use Rattle.std.specs.Str.{chars}
 use Rattle.where_eval.proofs.Likes.{walked_one, at_run}
 use Rattle.where_eval.proofs.like.before_run.Goals as goal

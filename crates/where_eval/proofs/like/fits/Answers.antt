@@ -1,4 +1,4 @@
-use Rattle.std.proofs.Common.{◌≡◌, sym, ◌∙◌}
+use Rattle.std.proofs.Common.{sym, ◌∙◌}
 use Rattle.std.specs.Str.{chars}
 use Rattle.where_eval.proofs.Likes.{led_whole}
 use Rattle.where_eval.proofs.like.fits.Goals as goal

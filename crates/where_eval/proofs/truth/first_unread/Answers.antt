@@ -1,4 +1,4 @@
-use Rattle.std.proofs.Common.{◌≡◌, sym, ◌∙◌, arith}
+use Rattle.std.proofs.Common.{sym, ◌∙◌, arith}
 use Rattle.where_eval.specs.Checked.{is_unread}
 use Rattle.where_eval.proofs.Seeing.{one_more_read}
 use Rattle.where_eval.proofs.truth.first_unread.Goals as goal

@@ -1,4 +1,4 @@
-use Rattle.std.proofs.Common.{◌≡◌, sym, ap, ◌∙◌}
+use Rattle.std.proofs.Common.{ap, ◌∙◌}
 use Rattle.where_eval.specs.Scalars.{tri_of}
 use Rattle.where_eval.proofs.Seeing.{all_read_in, one_unread_in}
 use Rattle.where_eval.proofs.truth.truth.Goals as goal
