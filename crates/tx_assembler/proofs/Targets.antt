@@ -129,7 +129,7 @@ served_end target (oid ∷ oids) found all h e = absurd (omega (arith, e))
 
 one_more : (t : Option (Option TableDef)) (oid : ℕ) (rest : Answer (List Came)) (later : Answer Bool) (cs : List Came) → rest ≡ next later (λ b. Ok cs)
     → next (change_under oid t (λ d. Ok kinds.Truncate)) (λ c. next rest (λ more. Ok (c ++ more)))
-      ≡ next (next (served_under oid t) (λ here. next later (λ l. Ok (here || l)))) (λ b. Ok (truncation t ++ cs))
+    ≡ next (next (served_under oid t) (λ here. next later (λ l. Ok (here || l)))) (λ b. Ok (truncation t ++ cs))
 one_more None oid rest later cs h = refl
 one_more (Some None) oid rest (Ok l) cs h = ap (λ (a : Answer (List Came)). next a (λ more. Ok more)) h
 one_more (Some None) oid rest (Err e) cs h = ap (λ (a : Answer (List Came)). next a (λ more. Ok more)) h

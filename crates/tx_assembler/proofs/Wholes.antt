@@ -59,7 +59,7 @@ values_wide before column [] vs h = said (λ (ws : Values). length ws ≡ 0) [] 
 values_wide before column (f ∷ fs) vs h =
     through (λ v. Unit {0}) (λ (ws : Values). length ws ≡ length (f ∷ fs)) (value_of before column f) (λ v. next (values_of before (column + 1) fs) (λ ws. Ok (v ∷ ws))) (λ v e. tt)
     (λ v u ws e. through (λ (xs : Values). length xs ≡ length fs) (λ (ys : Values). length ys ≡ length (f ∷ fs)) (values_of before (column + 1) fs) (λ xs. Ok (v ∷ xs)) (values_wide before (column + 1) fs)
-        (λ xs p ys g. said (λ (zs : Values). length zs ≡ length (f ∷ fs)) (v ∷ xs) ys g (ap suc p)) ws e) vs h
+    (λ xs p ys g. said (λ (zs : Values). length zs ≡ length (f ∷ fs)) (v ∷ xs) ys g (ap suc p)) ws e) vs h
 
 row_turn : (width : ℕ) (before : Values) (fields : List Field) (vs : Values) (b : Bool) → (b ≡ true → length fields ≡ width)
     → (if b then values_of before 0 fields else Err (errors.WrongWidth (length fields) width)) ≡ Ok vs → length vs ≡ width
@@ -83,7 +83,7 @@ update_wide : (old row : List Field) (d : TableDef) (k : ChangeKind) → update_
 update_wide old row d k h =
     through (λ (vs : Values). length vs ≡ length d.columns) (IsAsWide d) (row_of (length d.columns) [] old) (λ old. next (row_of (length d.columns) old row) (λ new. Ok (kinds.Update old new))) (row_wide (length d.columns) [] old)
     (λ vs p k g. through (λ (ws : Values). length ws ≡ length d.columns) (IsAsWide d) (row_of (length d.columns) vs row) (λ new. Ok (kinds.Update vs new)) (row_wide (length d.columns) vs row)
-        (λ ws q k g. said (IsAsWide d) (kinds.Update vs ws) k g (p, q)) k g) k h
+    (λ ws q k g. said (IsAsWide d) (kinds.Update vs ws) k g (p, q)) k g) k h
 
 updated_wide : (oid : ℕ) (before : Before) (row : List Field) (d : TableDef) (k : ChangeKind) → updated oid before row d ≡ Ok k → IsAsWide d k
 updated_wide oid Absent row d k h = absurd (not_err _ k h)
@@ -124,7 +124,7 @@ truncated_kept target (oid ∷ oids) cs h =
     through (AreKept 1) (AreKept (length (oid ∷ oids))) (change_under oid (target oid) (λ d. Ok kinds.Truncate)) (λ a. next (truncated target oids) (λ b. Ok (a ++ b)))
     (one_kept oid (target oid) (λ d. Ok kinds.Truncate) (λ d k e. said (IsAsWide d) kinds.Truncate k e tt))
     (λ a p cs g. through (AreKept (length oids)) (AreKept (length (oid ∷ oids))) (truncated target oids) (λ b. Ok (a ++ b)) (truncated_kept target oids)
-        (λ b q cs g. said (AreKept (length (oid ∷ oids))) (a ++ b) cs g (let both = both_kept 1 (length oids) a b p q in record { wide = both.wide; few = omega (arith, both.few) })) cs g) cs h
+    (λ b q cs g. said (AreKept (length (oid ∷ oids))) (a ++ b) cs g (let both = both_kept 1 (length oids) a b p q in record { wide = both.wide; few = omega (arith, both.few) })) cs g) cs h
 
 -- ---- the transaction with a change more
 

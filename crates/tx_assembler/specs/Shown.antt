@@ -1,7 +1,8 @@
 -- What a stream shows: the transactions of its stretches, each whole from Begin to Commit, without repeats.
-use Rattle.std.specs.List.{flat_map}
-use Rattle.std.specs.Prelude.{◌≡◌, ℕ, ◌+◌, max, nat_le, ◌==◌, Bool, true, false, if◌then◌else◌, List, [], ◌∷◌, ◌++◌, length, map, take, Result, Ok, Err, Option, None, Some}
+use Rattle.std.specs.Prelude.{◌≡◌, ℕ, ◌+◌, max, nat_le, ◌==◌, Bool, true, false, if◌then◌else◌, List, [], ◌∷◌, ◌++◌, length, map, take, Result, Ok, Err, Option, None, Some, slice_get}
 use Rattle.shape_base.specs.declared.row.TableDef.{TableDef}
+use Rattle.shape_base.specs.declared.row.Change.{Change}
+use Rattle.shape_base.specs.declared.row.ChangeKind.{ChangeKind}
 use Rattle.shape_base.specs.declared.row.Tx.{Tx}
 use Rattle.shape_base.specs.declared.served.Served.{Served}
 use Rattle.shape_base.specs.declared.history.History.{History}
@@ -83,6 +84,11 @@ before_first m (piece ∷ pieces) = (m ∷ piece) ∷ pieces
 abbrev pub pieces_of : List Message → List (List Message)
 pieces_of [] = []
 pieces_of (m ∷ ms) = if is_commit m then (m ∷ []) ∷ pieces_of ms else before_first m (pieces_of ms)
+
+-- the messages of pieces, in order
+abbrev pub concat : List (List Message) → List Message
+concat [] = []
+concat (piece ∷ pieces) = piece ++ concat pieces
 
 -- what follows the last Commit
 abbrev pub has_commit : List Message → Bool
@@ -201,7 +207,7 @@ change_refused (Some begin) last kind refused = if nat_le begin.0 last then None
 abbrev pub change_refused_after : List Served → ℕ → List Message → ℕ → Message → Verdict
 change_refused_after tables last before kind m =
     change_refused (begin_of (rest_of before)) (greatest_of last (pieces_of before)) kind
-    (changes_refused (changes_after tables before m) m (bytes_in tables (flat_map (λ piece. piece) (pieces_of before)) (rest_of before)))
+    (changes_refused (changes_after tables before m) m (bytes_in tables (concat (pieces_of before)) (rest_of before)))
 
 -- why a message is refused after others of its stretch, where this LSN was the greatest before the stretch
 abbrev pub refused_after : List Served → ℕ → List Message → Message → Verdict
@@ -248,6 +254,10 @@ shown_from tables last (stretch ∷ stretches) =
 abbrev pub shown : List Served → List Stretch → List Tx
 shown tables stream = shown_from tables 0 stream
 
--- A stream shows a history: what it shows is a front of the history's commits, in order, none skipped.
+-- What a transaction does: its LSN, its id, and its changes, each with the definition under which it came. Where it ends and how large it is says nothing of that.
+abbrev pub meaning : Tx → (ℕ × ℕ) × List (Option TableDef × ChangeKind)
+meaning tx = ((tx.lsn, tx.xid), map (λ (c : Change). (slice_get tx.defs c.def, c.kind)) tx.changes)
+
+-- A stream shows a history: what it shows does what the first commits of the history do, in order, none skipped.
 pub record Shows (h : History) (stream : List Stretch) : Type 0 where
-  pub front : take (length (shown h.tables stream)) (commits_of h.steps) ≡ shown h.tables stream
+  pub front : map meaning (take (length (shown h.tables stream)) (commits_of h.steps)) ≡ map meaning (shown h.tables stream)

@@ -35,7 +35,6 @@ pub struct Assembler {
 
 impl Model for Assembler {
     ghost use Rattle.tx_assembler.specs.Situation.{Situation, IsSound};
-
     ghost use Rattle.std.specs.Coded.{codes};
     ghost use Rattle.relation_cache.specs.Relations.{by_oid_code};
 
@@ -226,10 +225,7 @@ fn check_end(stage: &Stage, lsn: u64) -> Result<(), AssembleError>
     ensures { Gives result (may_end stage.now lsn) }
 {
     match stage {
-        Stage::Outside => Err(AssembleError::OutOfOrder {
-            have: 0,
-            got: b'C',
-        }),
+        Stage::Outside => Err(AssembleError::OutOfOrder { have: 0, got: b'C' }),
         Stage::Passing { begin } => check_lsn(*begin, lsn),
         Stage::Taking(tx) => check_lsn(tx.lsn, lsn),
         Stage::Refused(error) => Err(*error),

@@ -9,12 +9,12 @@ use Rattle.tx_assembler.proofs.assembler.Assembler.change.Goals.{in-Outside, in-
 pub invariant_of-self-2 : goal.invariant_of-self-2
 invariant_of-self-2 c =
     elim c.match-self.branch [
-      in-Outside w ↦ rw w.self-inside-is c.self.invariant
-    | in-Passing w ↦ rw w.self-inside-is c.self.invariant
-    | in-Taking+in_ok-take-in-Taking w ↦
-        rw w.self-inside-is (record {
-          few = c.self.invariant.few;
-          whole = whole_taken w.in-Taking.tx c.args.message (target_of w.as_slice.result.now (map.get c.self.inside.relations)) w.take.new.tx (subst IsWholeStage w.in-Taking.is c.self.invariant.whole) w.in_ok-take-in-Taking.ensures;
-        })
-    | in-Refused w ↦ rw w.self-inside-is (record { few = c.self.invariant.few; whole = tt })
+      | in-Outside w ↦ rw w.self-inside-is c.self.invariant
+      | in-Passing w ↦ rw w.self-inside-is c.self.invariant
+      | in-Taking+in_ok-take-in-Taking w ↦
+          rw w.self-inside-is (record {
+            few = c.self.invariant.few;
+            whole = whole_taken w.in-Taking.tx c.args.message (target_of w.as_slice.result.now (map.get c.self.inside.relations)) w.take.new.tx (subst IsWholeStage w.in-Taking.is c.self.invariant.whole) w.in_ok-take-in-Taking.ensures;
+          })
+      | in-Refused w ↦ rw w.self-inside-is (record { few = c.self.invariant.few; whole = tt })
     ]
