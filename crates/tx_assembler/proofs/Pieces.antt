@@ -1,5 +1,5 @@
 -- Messages of a stretch, one more at a time.
-use Rattle.std.proofs.Common.{◌≡◌, ℕ, zero, suc, ◌+◌, ◌<◌, ◌≤◌, max, Bool, true, false, List, [], ◌∷◌, ◌++◌, length, map, refl, sym, ap, subst, ◌∙◌, arith, append_assoc, Option, Some, None}
+use Rattle.std.proofs.Common.{◌≡◌, ℕ, ◌+◌, ◌<◌, ◌≤◌, max, Bool, true, false, List, [], ◌∷◌, ◌++◌, map, refl, sym, ap, ◌∙◌, arith, append_assoc, Option, Some, None}
 use Rattle.std.specs.Prelude.{nat_le, if◌then◌else◌}
 use Rattle.std.proofs.lemmas.List.{append-nil}
 use Rattle.std.proofs.lemmas.Bool.Decides.{nat_tests}
@@ -9,7 +9,7 @@ use Rattle.shape_base.specs.declared.served.Served.{Served}
 use Rattle.shape_base.specs.declared.row.Tx.{Tx}
 use Rattle.relation_cache.specs.declared.relation.Relation as described
 use Rattle.tx_assembler.specs.Kept.{Came, bytes_kept}
-use Rattle.tx_assembler.specs.Shown.{Item, Sent, messages_of, or_else, described_by, last_relation, is_commit, before_first, pieces_of, concat, has_commit, rest_of, or_begin, begin_of, lsn_of, if_kept, changes_after, changes_in, bytes_in, tx_of, greatest_of, Verdict, refused_after, unless_refused, taken_from, shown_in}
+use Rattle.tx_assembler.specs.Shown.{Sent, messages_of, or_else, described_by, last_relation, is_commit, before_first, pieces_of, concat, has_commit, rest_of, or_begin, begin_of, lsn_of, if_kept, changes_after, changes_in, bytes_in, tx_of, greatest_of, Verdict, refused_after, unless_refused, taken_from, shown_in}
 
 pub all_sent : (ms : List Message) → messages_of (map Sent ms) ≡ ms
 all_sent [] = refl

@@ -1,5 +1,5 @@
 -- Over the messages of a whole stream the answers are the due ones, and give what the stream shows.
-use Rattle.std.proofs.Common.{◌≡◌, ℕ, Bool, true, false, List, [], ◌∷◌, ◌++◌, map, refl, sym, ap, ◌∙◌, append_assoc, Ok, Err, Some, None}
+use Rattle.std.proofs.Common.{◌≡◌, ℕ, true, false, List, [], ◌∷◌, ◌++◌, map, refl, sym, ap, ◌∙◌, append_assoc, Ok, Err, Some, None}
 use Rattle.std.specs.Prelude.{nat_le, if◌then◌else◌}
 use Rattle.std.specs.FinMap as fin
 use Rattle.std.proofs.lemmas.List.{append-nil}
@@ -14,8 +14,8 @@ use Rattle.tx_assembler.specs.declared.stage.Stage.TheVariants.{Refused}
 use Rattle.tx_assembler.specs.Answers.{Answer}
 use Rattle.tx_assembler.specs.Situation.{Situation}
 use Rattle.tx_assembler.specs.Feeding.{Turn, with_stage, turn_of}
-use Rattle.tx_assembler.specs.Shown.{Stretch, messages_of, is_commit, pieces_of, concat, rest_of, lsn_of, tx_of, greatest_of, Verdict, refused_after, unless_refused, taken_from, taken_of, shown_in, shown_from, shown}
-use Rattle.tx_assembler.specs.Courses.{after_turn, told, answers_to, after_all, at_start, reopened, answers_over, due_for, due_after, due_by, due_from, due_over, if_given, given_in, given_over, IsShownSo, FedIsShown}
+use Rattle.tx_assembler.specs.Shown.{Stretch, messages_of, is_commit, pieces_of, concat, rest_of, lsn_of, tx_of, greatest_of, Verdict, refused_after, unless_refused, taken_from, taken_of, shown_in, shown_from}
+use Rattle.tx_assembler.specs.Courses.{after_turn, told, answers_to, after_all, at_start, reopened, answers_over, due_for, due_after, due_by, due_from, due_over, if_given, given_in, given_over, FedIsShown}
 use Rattle.tx_assembler.proofs.Pieces.{pieces_quiet, pieces_closed, one_shown, shown_more}
 use Rattle.tx_assembler.proofs.Standing.{standing, put_by, turn_by, Stands, turned, stands_on, stands_first}
 

@@ -1,5 +1,5 @@
 -- Where the assembler stands after messages of a stretch, one more at a time.
-use Rattle.std.proofs.Common.{◌≡◌, ℕ, zero, suc, ◌+◌, ◌<◌, ◌≤◌, max, Bool, true, false, cond, List, [], ◌∷◌, ◌++◌, length, map, refl, sym, ap, subst, ◌∙◌, arith, append_assoc, Result, Ok, Err, Option, Some, None}
+use Rattle.std.proofs.Common.{◌≡◌, ℕ, ◌+◌, ◌<◌, ◌≤◌, max, Bool, true, false, cond, List, [], ◌∷◌, ◌++◌, refl, sym, ap, subst, ◌∙◌, arith, Ok, Err, Option, Some, None}
 use Rattle.std.proofs.Math.Path.{fun_ext}
 use Rattle.std.specs.Prelude.{nat_le, ◌==◌, if◌then◌else◌}
 use Rattle.std.specs.Ordering.{nat_cmp, eq_by_cmp}
@@ -12,25 +12,23 @@ use Rattle.std.proofs.lemmas.Bool.Decides.{nat_tests, Decides-eqb}
 use Rattle.pgout.specs.declared.message.ColumnSent.{ColumnSent}
 use Rattle.pgout.specs.declared.message.Message.{Message}
 use Rattle.pgout.specs.declared.message.Message.TheVariants.{Begin, Commit, Origin, TypeName, Relation, Insert, Update, Delete, Truncate, Logical}
-use Rattle.shape_base.specs.declared.row.TableDef.{TableDef}
 use Rattle.shape_base.specs.declared.row.Tx.{Tx}
 use Rattle.shape_base.specs.declared.row.Column.{Column}
 use Rattle.shape_base.specs.declared.served.Served.{Served}
 use Rattle.relation_cache.specs.declared.relation.Relation as described
 use Rattle.relation_cache.specs.Relations.{ByOid}
-use Rattle.tx_assembler.specs.declared.answer.AssembleError.{AssembleError}
 use Rattle.tx_assembler.specs.declared.answer.AssembleError.TheVariants as errors
 use Rattle.tx_assembler.specs.declared.answer.Fed.{Fed}
 use Rattle.tx_assembler.specs.declared.answer.Fed.TheVariants as answers
 use Rattle.tx_assembler.specs.declared.stage.Stage.{Stage}
-use Rattle.tx_assembler.specs.declared.stage.Stage.TheVariants.{Outside, Passing, Taking, Refused}
+use Rattle.tx_assembler.specs.declared.stage.Stage.TheVariants.{Outside, Passing, Taking}
 use Rattle.tx_assembler.specs.Answers.{Answer, next}
 use Rattle.tx_assembler.specs.Rows.{text_of, namespace_of, columns_of, relation_of}
 use Rattle.tx_assembler.specs.Kept.{Came, target_of, changes_of, bytes_kept, place_of_definition, with_change_at, with_change, with_changes, with_bytes}
 use Rattle.tx_assembler.specs.Situation.{Situation}
 use Rattle.tx_assembler.specs.Whole.{most_bytes}
-use Rattle.tx_assembler.specs.Feeding.{Turn, with_stage, empty_tx, opened, begun, same_lsn, may_end, ended, closed, committed, related, within_limit, grown, taken, changed, received, unless_refused, turn_of}
-use Rattle.tx_assembler.specs.Shown.{if_made, described_by, or_else, last_relation, is_commit, pieces_of, concat, has_commit, rest_of, or_begin, begin_of, xid_in, lsn_in, lsn_of, or_end, end_of, if_kept, changes_after, changes_in, bytes_in, tx_with, tx_of, greatest_of, Verdict, refusal_in, begin_refused, commit_refused, changes_refused, change_refused, refused_after}
+use Rattle.tx_assembler.specs.Feeding.{Turn, empty_tx, begun, same_lsn, closed, committed, related, grown, changed, received, unless_refused, turn_of}
+use Rattle.tx_assembler.specs.Shown.{if_made, described_by, or_else, last_relation, is_commit, pieces_of, concat, has_commit, rest_of, or_begin, begin_of, xid_in, lsn_in, or_end, end_of, if_kept, changes_after, changes_in, bytes_in, tx_with, greatest_of, Verdict, refusal_in, begin_refused, commit_refused, changes_refused, change_refused, refused_after}
 use Rattle.tx_assembler.specs.Courses.{due_for, due_after}
 use Rattle.tx_assembler.proofs.Targets.{with_both}
 use Rattle.tx_assembler.proofs.Pieces.{pieces_quiet, rest_quiet, pieces_closed, rest_closed, joined, relation_more, changes_more, bytes_more, greatest_more}

@@ -1,10 +1,9 @@
 -- What an assembler answers over a whole stream.
-use Rattle.std.specs.Prelude.{◌≡◌, ℕ, nat_le, Bool, true, false, if◌then◌else◌, List, [], ◌∷◌, ◌++◌, map, Result, Ok, Err, Option, None, Some}
+use Rattle.std.specs.Prelude.{◌≡◌, ℕ, nat_le, if◌then◌else◌, List, [], ◌∷◌, ◌++◌, map, Ok, Err, None, Some}
 use Rattle.std.specs.FinMap as relations
 use Rattle.shape_base.specs.declared.row.Tx.{Tx}
 use Rattle.shape_base.specs.declared.served.Served.{Served}
 use Rattle.pgout.specs.declared.message.Message.{Message}
-use Rattle.tx_assembler.specs.declared.answer.AssembleError.{AssembleError}
 use Rattle.tx_assembler.specs.declared.answer.Fed.{Fed}
 use Rattle.tx_assembler.specs.declared.answer.Fed.TheVariants as answers
 use Rattle.tx_assembler.specs.declared.stage.Stage.TheVariants.{Outside, Refused}
