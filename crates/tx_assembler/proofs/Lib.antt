@@ -1,3 +1,6 @@
 pub mod Loops
 pub mod Targets
 pub mod Wholes
+pub mod Pieces
+pub mod Standing
+pub mod Runs

@@ -21,7 +21,7 @@ use Rattle.tx_assembler.specs.declared.answer.AssembleError.TheVariants as error
 use Rattle.tx_assembler.specs.Answers.{Answer, next, Refuses}
 use Rattle.tx_assembler.specs.Kept.{Came, table_named, definition_of, change_under, target_of, truncated, bytes_of_some, bytes_kept, place_of_definition, with_change_at, with_change, with_changes, with_bytes}
 use Rattle.tx_assembler.specs.Whole.{most_bytes}
-use Rattle.tx_assembler.specs.Feeding.{within_limit, grown, taken_by}
+use Rattle.tx_assembler.specs.Feeding.{grown, taken_by}
 use Rattle.tx_assembler.specs.Taking.{IsTaken, HasMore, definition_at, with_one, served_under, some_served, truncation, truncations}
 
 -- ---- answers

@@ -1,11 +1,10 @@
 -- A transaction stays whole while it grows.
-use Rattle.std.proofs.Common.{◌≡◌, ℕ, zero, suc, ◌+◌, ◌*◌, ◌<◌, ◌≤◌, Bool, true, false, cond, List, [], ◌∷◌, ◌++◌, length, refl, sym, ap, subst, ◌∙◌, arith, add-one, length-append, None, Some, Ok, Err, Option}
+use Rattle.std.proofs.Common.{◌≡◌, ℕ, zero, suc, ◌+◌, ◌≤◌, Bool, true, false, List, [], ◌∷◌, ◌++◌, length, refl, sym, ap, subst, ◌∙◌, arith, add-one, length-append, None, Some, Ok, Err, Option}
 use Rattle.std.proofs.lemmas.Bool.Decides.{Decides-eqb}
 use Rattle.std.specs.Prelude.{nat_le, ◌||◌, slice_get, IfSome, if◌then◌else◌, ◌==◌}
 use Rattle.std.specs.List.{list_any, AllByRecursion}
 use Rattle.std.specs.Option.{option_map, IsSomeAnd}
 use Rattle.shape_base.proofs.Tests.{Decides-same_def}
-use Rattle.shape_base.specs.declared.row.Value.{Value}
 use Rattle.shape_base.specs.declared.row.TableDef.{TableDef}
 use Rattle.shape_base.specs.declared.row.Change.{Change}
 use Rattle.shape_base.specs.declared.row.ChangeKind.{ChangeKind}
@@ -21,7 +20,7 @@ use Rattle.tx_assembler.specs.declared.answer.AssembleError.{AssembleError}
 use Rattle.tx_assembler.specs.declared.answer.AssembleError.TheVariants as errors
 use Rattle.tx_assembler.specs.Answers.{Answer, next}
 use Rattle.tx_assembler.specs.Rows.{value_of, values_of, row_of}
-use Rattle.tx_assembler.specs.Kept.{Came, place_where, place_of_definition, with_change_at, with_change, with_changes, with_bytes, change_under, whole_row, inserted, update_of, updated, delete_of, deleted, truncated, changes_of, bytes_of_some, bytes_kept}
+use Rattle.tx_assembler.specs.Kept.{Came, place_of_definition, with_change_at, with_change, with_changes, with_bytes, change_under, inserted, update_of, updated, delete_of, deleted, truncated, changes_of, bytes_of_some, bytes_kept}
 use Rattle.pgout.specs.Grammar.{spelled}
 use Rattle.std.proofs.lemmas.Bool.{leb-true}
 use Rattle.tx_assembler.specs.Feeding.{within_limit, grown, taken_by, empty_tx, ended}

@@ -1,5 +1,5 @@
 -- What an assembler answers to one message.
-use Rattle.std.specs.Prelude.{◌≡◌, ℕ, ◌+◌, nat_le, ◌==◌, true, false, if◌then◌else◌, List, [], ◌∷◌, Option, Result, Ok, Err, MatchBool}
+use Rattle.std.specs.Prelude.{◌≡◌, ℕ, ◌+◌, nat_le, ◌==◌, if◌then◌else◌, List, [], Option, Result, Ok, Err, MatchBool}
 use Rattle.std.specs.FinMap as map
 use Rattle.shape_base.specs.declared.row.TableDef.{TableDef}
 use Rattle.shape_base.specs.declared.row.Tx.{Tx}

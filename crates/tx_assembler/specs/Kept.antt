@@ -1,5 +1,5 @@
 -- What is kept of a message: the changes of served tables.
-use Rattle.std.specs.Prelude.{ℕ, ◌+◌, Bool, ◌&&◌, ◌==◌, if◌then◌else◌, List, [], ◌∷◌, ◌++◌, length, Result, Ok, Err, Option, None, Some}
+use Rattle.std.specs.Prelude.{ℕ, ◌+◌, Bool, ◌&&◌, if◌then◌else◌, List, [], ◌∷◌, ◌++◌, length, Ok, Err, Option, None, Some}
 use Rattle.std.specs.Option.{option_map}
 use Rattle.shape_base.specs.declared.row.TableDef.{TableDef}
 use Rattle.shape_base.specs.declared.row.ChangeKind.{ChangeKind}

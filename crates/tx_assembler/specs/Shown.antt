@@ -1,5 +1,5 @@
 -- What a stream shows: the transactions of its stretches, each whole from Begin to Commit, without repeats.
-use Rattle.std.specs.Prelude.{◌≡◌, ℕ, ◌+◌, max, nat_le, ◌==◌, Bool, true, false, if◌then◌else◌, List, [], ◌∷◌, ◌++◌, length, map, take, Result, Ok, Err, Option, None, Some, slice_get}
+use Rattle.std.specs.Prelude.{◌≡◌, ℕ, ◌+◌, max, nat_le, ◌==◌, Bool, true, false, if◌then◌else◌, List, [], ◌∷◌, ◌++◌, length, map, take, Ok, Err, Option, None, Some, slice_get}
 use Rattle.shape_base.specs.declared.row.TableDef.{TableDef}
 use Rattle.shape_base.specs.declared.row.Change.{Change}
 use Rattle.shape_base.specs.declared.row.ChangeKind.{ChangeKind}
@@ -12,7 +12,7 @@ use Rattle.pgout.specs.declared.message.Message.TheVariants.{Begin, Logical, Com
 use Rattle.relation_cache.specs.declared.relation.Relation as described
 use Rattle.tx_assembler.specs.declared.answer.AssembleError.{AssembleError}
 use Rattle.tx_assembler.specs.declared.answer.AssembleError.TheVariants as errors
-use Rattle.tx_assembler.specs.Answers.{Answer, next}
+use Rattle.tx_assembler.specs.Answers.{Answer}
 use Rattle.tx_assembler.specs.Rows.{relation_of}
 use Rattle.tx_assembler.specs.Kept.{Came, target_of, changes_of, bytes_kept, with_changes}
 use Rattle.tx_assembler.specs.Feeding.{empty_tx, within_limit}

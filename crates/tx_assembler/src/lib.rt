@@ -6,6 +6,7 @@
 
 mod answer;
 mod assembler;
+pub mod laws;
 mod made;
 mod rows;
 mod sizes;

@@ -1,6 +1,5 @@
-use Rattle.std.proofs.Common.{◌≡◌, ap, sym, subst, ◌∙◌, Ok}
+use Rattle.std.proofs.Common.{ap, sym, subst, ◌∙◌, Ok}
 use Rattle.std.specs.Str.{IsUtf8, IsValidUpTo}
-use Rattle.tx_assembler.specs.Rows.{text_of}
 use Rattle.tx_assembler.proofs.Loops.{text_is, text_is_not}
 use Rattle.tx_assembler.proofs.rows.text_of.Goals as goal
 
