@@ -2,3 +2,4 @@ pub mod CellLaws
 pub mod KeyLaws
 pub mod Places
 pub mod Entries
+pub mod LongTest

@@ -6,7 +6,11 @@
 mod cells;
 mod emitting;
 mod key;
+#[cfg(test)]
+mod long;
 mod order;
+#[cfg(test)]
+mod tests;
 
 pub use emitting::{EmitError, Emitted, Emitter};
 pub use key::{KeyError, key_text};
