@@ -15,7 +15,6 @@ pub mod Following
 pub mod Taken
 pub mod WholeTable
 pub mod Reached
-pub mod Pieces
 pub mod Streams
 pub mod Courses
 pub mod Steps

@@ -46,7 +46,7 @@ use Rattle.shape_replay.specs.Stream.{is_unseen, start, quietly, with_change, in
 use Rattle.shape_replay.specs.Headline.{whole_of}
 use Rattle.shape_replay.proofs.WholeTable.{IsTabled}
 use Rattle.shape_replay.proofs.TableLaws.{name_utf8}
-use Rattle.shape_replay.proofs.Pieces.{all_sent, taken_more, pieces_quiet, rest_quiet, pieces_closed, rest_closed, joined, begin_more, relation_more, changes_more, bytes_more, greatest_more, shown_more}
+use Rattle.tx_assembler.proofs.Pieces.{all_sent, taken_more, pieces_quiet, rest_quiet, pieces_closed, rest_closed, joined, begin_more, relation_more, changes_more, bytes_more, greatest_more, shown_more}
 
 -- the one served table, with the declared names
 pub record IsNamed (tables : List Served) (served : Served) (t : Tabled) : Type 0 where
