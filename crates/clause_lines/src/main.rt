@@ -1,6 +1,12 @@
 //! Reads where-clauses, one a line, and writes a line for each: its canonical text, or its fault and the fault's place.
 #![tactic(auto)]
 
+ghost use Rattle.std.specs.Prelude.{◌≡◌, ℕ, List};
+ghost use Rattle.where_grammar.specs.Tree.{Tree};
+ghost use Rattle.where_grammar.specs.Clause.{canonical_text};
+ghost use Rattle.where_parser.specs.Whole.{IsTreeOf, IsSyntaxAt, IsDeepAt};
+ghost use Rattle.clause_lines.specs.declared.Answer.TheVariants as answers;
+
 use shape_base::text::Text;
 use std::alloc::Global;
 use std::io;
@@ -17,7 +23,12 @@ enum Answer {
     OutOfMemory,
 }
 
-fn answer_to(alloc: Global, line: &str) -> Answer {
+/// The canonical text of a clause, or its fault.
+fn answer_to(alloc: Global, line: &str) -> Answer
+    ensures canonical { (text : List ℕ) → result ≡ answers.Canonical text → (tree : Tree) × IsTreeOf line.now tree × (text ≡ canonical_text tree) }
+    ensures syntax { (place : ℕ) → result ≡ answers.Syntax place → IsSyntaxAt line.now place }
+    ensures too_deep { (place : ℕ) → result ≡ answers.TooDeep place → IsDeepAt line.now place }
+{
     let Ok(text) = Text::of(alloc, line) else {
         return Answer::OutOfMemory;
     };
