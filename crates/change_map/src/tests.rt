@@ -413,6 +413,14 @@ fn quotes_are_doubled_and_cells_stand_by_name(rt: HostRuntime) -> Result<(), Out
 }
 
 #[test]
+fn an_emitter_keeps_its_test(rt: HostRuntime) -> Result<(), OutOfMemory> {
+    let alloc = rt.alloc();
+    let emitter = Emitter::new(alloc, tags(alloc)?)?;
+    assert_eq!(rt; emitter.test().served().name.as_str(), "tags");
+    Ok(())
+}
+
+#[test]
 fn a_null_key_has_no_text(rt: HostRuntime) -> Result<(), OutOfMemory> {
     let alloc = rt.alloc();
     let row = tag(alloc, "null 2")?;
