@@ -1,0 +1,94 @@
+//! What is printed of an answer.
+use shape_base::row::{Change, ChangeKind, Row, TableDef, Tx, Value};
+use std::alloc::{AllocError, Global};
+use tx_assembler::{AssembleError, Fed};
+
+fn put_row(out: &mut String, row: &Row) -> Result<(), AllocError> {
+    for value in row.as_slice() {
+        match value {
+            Value::Null => out.push('-')?,
+            Value::Words(text) => out.push_str(text.as_str())?,
+        }
+    }
+    Ok(())
+}
+
+fn put_change(out: &mut String, change: &Change) -> Result<(), AllocError> {
+    match &change.kind {
+        ChangeKind::Insert { new } => {
+            out.push('+')?;
+            put_row(out, new)
+        }
+        ChangeKind::Update { old, new } => {
+            out.push('*')?;
+            put_row(out, old)?;
+            out.push('>')?;
+            put_row(out, new)
+        }
+        ChangeKind::Delete { old } => {
+            out.push('-')?;
+            put_row(out, old)
+        }
+        ChangeKind::Truncate => {
+            out.push('0')?;
+            Ok(())
+        }
+    }
+}
+
+fn put_definition(alloc: Global, out: &mut String, def: &TableDef) -> Result<(), AllocError> {
+    let head = format!(in alloc; " [{} {} ", def.table, def.oid)?;
+    out.push_str(head.as_str())?;
+    for column in def.columns.as_slice() {
+        out.push_str(column.name.as_str())?;
+    }
+    out.push(']')?;
+    Ok(())
+}
+
+fn tx_line(alloc: Global, tx: &Tx) -> Result<String, AllocError> {
+    let mut line = format!(in alloc;
+        "tx {} xid {} end {} bytes {}",
+        tx.lsn, tx.xid, tx.end, tx.bytes
+    )?;
+    for def in tx.defs.as_slice() {
+        put_definition(alloc, &mut line, def)?;
+    }
+    for change in tx.changes.as_slice() {
+        let place = format!(in alloc; " {}", change.def)?;
+        line.push_str(place.as_str())?;
+        put_change(&mut line, change)?;
+    }
+    Ok(line)
+}
+
+pub fn fed_line(alloc: Global, fed: &Fed) -> Result<String, AllocError> {
+    match fed {
+        Fed::Nothing => format!(in alloc; "nothing"),
+        Fed::Tx(tx) => tx_line(alloc, tx),
+        Fed::Repeat { lsn, last } => format!(in alloc; "repeat {lsn} last {last}"),
+    }
+}
+
+pub fn refusal_line(alloc: Global, error: AssembleError) -> Result<String, AllocError> {
+    match error {
+        AssembleError::OutOfOrder { have, got } => {
+            format!(in alloc; "out_of_order {have} {got}")
+        }
+        AssembleError::LsnMismatch { begin, commit } => {
+            format!(in alloc; "lsn_mismatch {begin} {commit}")
+        }
+        AssembleError::UnknownRelation { oid } => format!(in alloc; "unknown_relation {oid}"),
+        AssembleError::NoOldRow { oid } => format!(in alloc; "no_old_row {oid}"),
+        AssembleError::WrongWidth { have, want } => {
+            format!(in alloc; "wrong_width {have} {want}")
+        }
+        AssembleError::BinaryColumn { column } => format!(in alloc; "binary_column {column}"),
+        AssembleError::UnsentValue { column } => format!(in alloc; "unsent_value {column}"),
+        AssembleError::NotUtf8 { place } => format!(in alloc; "not_utf8 {place}"),
+        AssembleError::TxTooLarge { bytes, limit } => {
+            format!(in alloc; "tx_too_large {bytes} {limit}")
+        }
+        AssembleError::OutOfMemory => format!(in alloc; "out_of_memory"),
+    }
+}
