@@ -62,7 +62,7 @@ with open(sys.argv[1], 'wb') as out:
     out.write(b'E\0\0\0\0')
 PYTHON
 
-(cd crates/decode_bench && rt run -- again < stdin > /dev/null 2>&1) || { echo "decode.sh: decode_bench does not run"; exit 1; }
+[ -x crates/decode_bench/out/decode_bench ] || (cd crates/decode_bench && rt run -- again < stdin > /dev/null 2>&1) || { echo "decode.sh: decode_bench does not run"; exit 1; }
 program=crates/decode_bench/out/decode_bench
 
 # seconds WORDS..: the best of five runs, with the script as input

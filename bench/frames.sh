@@ -86,7 +86,7 @@ with open(sys.argv[1] + '/one.wanted', 'w') as out:
     out.write('frames 1 of 64000000 bytes, keepalives 0, rest 0\n')
 PYTHON
 
-(cd crates/frames_bench && rt run -- 7 < stdin > /dev/null 2>&1) || { echo "frames.sh: frames_bench does not run"; exit 1; }
+[ -x crates/frames_bench/out/frames_bench ] || (cd crates/frames_bench && rt run -- 7 < stdin > /dev/null 2>&1) || { echo "frames.sh: frames_bench does not run"; exit 1; }
 program=crates/frames_bench/out/frames_bench
 
 # seconds FILE WORDS..: the best of three runs, with the file as input

@@ -6,7 +6,7 @@ set -eu
 each=${1:-250000}
 top=$(cd "$(dirname "$0")/.." && pwd)
 command -v rt >/dev/null || { echo "skipped: no rt"; exit 0; }
-(cd "$top/crates/lock_bench" && rt run <stdin >/dev/null 2>&1) || { echo "lock_bench does not run"; exit 1; }
+[ -x "$top/crates/lock_bench/out/lock_bench" ] || (cd "$top/crates/lock_bench" && rt run <stdin >/dev/null 2>&1) || { echo "lock_bench does not run"; exit 1; }
 program=$top/crates/lock_bench/out/lock_bench
 
 # Prints the least of five times, in milliseconds.

@@ -70,7 +70,7 @@ write(sys.argv[1] + '/large', 60_000_000)
 write(sys.argv[1] + '/small', 6_000_000)
 PYTHON
 
-(cd crates/shape_replay && rt run -- replay < stdin > /dev/null 2>&1) || { echo "replay.sh: shape_replay does not run"; exit 1; }
+[ -x crates/shape_replay/out/shape_replay ] || (cd crates/shape_replay && rt run -- replay < stdin > /dev/null 2>&1) || { echo "replay.sh: shape_replay does not run"; exit 1; }
 program=$PWD/crates/shape_replay/out/shape_replay
 
 # seconds FILE WORDS..: the best of three runs with the file as input
