@@ -1,5 +1,5 @@
 -- Folding a part of a log into the rows of a client, and undoing it.
-use Rattle.std.proofs.Common.{◌≡◌, ℕ, zero, suc, ◌+◌, ◌-◌, ◌<◌, ◌≤◌, Bool, true, false, List, [], ◌∷◌, ◌++◌, take, drop, refl, sym, ◌∙◌, ap, subst, arith, Option, None, Some, is_some}
+use Rattle.std.proofs.Common.{◌≡◌, ℕ, zero, suc, ◌+◌, ◌-◌, ◌<◌, ◌≤◌, Bool, true, false, cond, List, [], ◌∷◌, ◌++◌, take, drop, refl, sym, ◌∙◌, ap, subst, arith, Option, None, Some, is_some}
 use Rattle.std.specs.Prelude.{slice_get}
 use Rattle.std.proofs.lemmas.List.{drop-drop}
 use Rattle.std.proofs.Math.Seq.{take-add}
@@ -16,7 +16,8 @@ use Rattle.shape_base.specs.declared.row.Entry.{Entry}
 use Rattle.shape_base.specs.Shape.{Map}
 use Rattle.shape_base.specs.Maps.{map_in}
 use Rattle.shape_base.specs.Log.{fold_op, fold_from, last_offset}
-use Rattle.shape_base.proofs.MapLaws.{text_cmp, remove_inserted}
+use Rattle.std.specs.Cmp.Lexicographic.{nat_list_cmp_total}
+use Rattle.shape_base.proofs.MapLaws.{text_cmp, tied, same_from_tied, exact, insert_twice, remove_inserted}
 use Rattle.shape_base.proofs.Commits.{fold_from-append}
 use Rattle.shape_base.proofs.Maps.{get_in}
 use Rattle.shape_base.proofs.Tests.{both_true}
@@ -130,3 +131,18 @@ pub fold_turn : (log : List Entry) (from place : ℕ) (e : Entry) (before m : Ma
     → fold_from (take (place - from) (drop from log)) before ≡ Some m → fold_op Insert e.key e.cells m ≡ o → fold_from (take (place + 1 - from) (drop from log)) before ≡ o
 fold_turn log from place e before m o le h inserts k next =
     fold_part log from place e before le h ∙ ap (option_and_then (fold_op e.op e.key e.cells)) k ∙ ap (λ (op : Op). fold_op op e.key e.cells m) (at_insert log place e inserts h) ∙ next
+
+-- ---- an insert, and its undoing
+
+-- nothing came out, so nothing was there
+pub absent_from : (o there : Option (List Cell)) → ((x : List Cell) → o ≡ Some x → ⊥) → o ≡ there → is_some there ≡ false
+absent_from None there not e = sym (ap is_some e)
+absent_from (Some x) there not e = absurd (not x refl)
+
+same_there : (m : Map) (k q : List ℕ) (v : List Cell) → fin.get m k ≡ Some v → (b : Bool) → tied q k ≡ b → cond b (Some v) (fin.get m q) ≡ fin.get m q
+same_there m k q v h true e = sym (subst (λ (x : List ℕ). fin.get m x ≡ Some v) (sym (same_from_tied q k e)) h)
+same_there m k q v h false e = refl
+
+-- what came out is put back
+pub reinserted : (m : Map) (k : List ℕ) (w v : List Cell) → fin.get m k ≡ Some v → fin.insert (fin.insert m k w) k v ≡ m
+reinserted m k w v h = insert_twice m k w v ∙ fin.same_map nat_list_cmp_total exact _ _ (λ q. fin.get-insert nat_list_cmp_total m k v q ∙ same_there m k q v h (tied q k) refl)

@@ -56,13 +56,14 @@ fn insert(alloc: Global, rows: &mut Rows, entry: &Entry) -> Result<bool, OutOfMe
     ensures folds { IfOk result (λ done. fold_op Insert entry.now.key entry.now.cells (map_in rows.old) ≡ (if done then Some (map_in rows.new) else None)) }
     ensures stays { IfOk result (λ done. done ≡ false → map_in rows.new ≡ map_in rows.old) }
 {
-    if rows.contains_key(&entry.key) {
-        return Ok(false);
-    }
     let key = entry.key.copy(alloc)?;
     let cells = entry.cells.copy(alloc)?;
-    let _before = rows.insert(key, cells)?;
-    Ok(true)
+    let Some(before) = rows.insert(key, cells)? else {
+        return Ok(true);
+    };
+    let key = entry.key.copy(alloc)?;
+    let _cells = rows.insert(key, before)?;
+    Ok(false)
 }
 
 /// Takes out what the entries from one place up to below another have inserted, the last first.
