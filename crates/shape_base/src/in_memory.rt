@@ -23,6 +23,10 @@ impl MemorySource {
     pub fn new(bytes: Vec<u8>, piece: usize, failing: Vec<u64>) -> MemorySource
         requires { 0 < piece }
         ensures left { drop result.at result.bytes.items ≡ bytes.items }
+        ensures start { result.at ≡ 0 }
+        ensures pieces { result.piece ≡ piece }
+        ensures failing { result.failing ≡ failing }
+        ensures calls { result.calls ≡ 0 }
         ensures faults { result.faults ≡ 0 }
     {
         MemorySource {
@@ -36,7 +40,9 @@ impl MemorySource {
     }
 
     /// How many bytes it gave.
-    pub fn count(&self) -> usize {
+    pub fn count(&self) -> usize
+        ensures { result ≡ self.now.at }
+    {
         self.at
     }
 }
@@ -84,6 +90,8 @@ pub struct MemorySink {
 impl MemorySink {
     pub fn new(alloc: Global, failing: Vec<u64>) -> MemorySink
         ensures bytes { result.bytes.items ≡ [] }
+        ensures failing { result.failing ≡ failing }
+        ensures calls { result.calls ≡ 0 }
         ensures faults { result.faults ≡ 0 }
     {
         MemorySink {

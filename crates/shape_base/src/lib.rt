@@ -1,6 +1,7 @@
 // The types that all crates speak of.
 #![tactic(auto)]
 
+pub mod ask;
 #[cfg(test)]
 mod cases;
 pub mod decimal;

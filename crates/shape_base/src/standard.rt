@@ -1,5 +1,5 @@
 //! Standard input and output. They tell nothing of their bytes, and count their faults.
-ghost use Rattle.std.specs.Prelude.{false, []};
+ghost use Rattle.std.specs.Prelude.{◌≡◌, false, []};
 
 use super::outside::{Failed, Sink, Source, Traffic};
 use std::io::{Read, Write};
@@ -12,7 +12,10 @@ pub struct Input<R: Drop> {
 }
 
 impl<R: Read + Drop> Input<R> {
-    pub fn new(reader: R) -> Input<R> {
+    pub fn new(reader: R) -> Input<R>
+        ensures reader { result.reader ≡ reader }
+        ensures faults { result.faults ≡ 0 }
+    {
         Input { reader, faults: 0 }
     }
 }
@@ -51,7 +54,10 @@ pub struct Output<W: Drop> {
 }
 
 impl<W: Write + Drop> Output<W> {
-    pub fn new(writer: W) -> Output<W> {
+    pub fn new(writer: W) -> Output<W>
+        ensures writer { result.writer ≡ writer }
+        ensures faults { result.faults ≡ 0 }
+    {
         Output { writer, faults: 0 }
     }
 }

@@ -1,0 +1,72 @@
+//! What a request asks for.
+ghost use Rattle.std.specs.Prelude.{◌≡◌, IfOk};
+
+use super::handle::Handle;
+use super::memory::{Duplicate, OutOfMemory};
+use super::row::{Offset, Texts};
+use super::text::Text;
+use std::alloc::Global;
+
+/// The handle that a request names.
+#[derive(Drop)]
+pub enum Named {
+    /// None.
+    Absent,
+    Known(Handle),
+    /// A text that is no handle.
+    Strange,
+}
+
+/// A request for a part of one table.
+#[derive(Drop)]
+pub struct Ask {
+    /// The place of the table among the served ones.
+    pub table: u32,
+    /// The names of the chosen columns as the request has them; all columns where it has none.
+    pub columns: Option<Texts>,
+    /// The canonical text of the where-clause.
+    pub clause: Option<Text>,
+    /// The text that tells the shape apart from others.
+    pub identity: Text,
+    pub named: Named,
+    /// Where the page begins.
+    pub offset: Offset,
+    /// Whether the request waits for what is new.
+    pub live: bool,
+    pub cursor: u64,
+}
+
+impl Duplicate for Named {
+    fn copy(&self, alloc: Global) -> Result<Named, OutOfMemory> {
+        match self {
+            Named::Absent => Ok(Named::Absent),
+            Named::Known(handle) => Ok(Named::Known(handle.copy(alloc)?)),
+            Named::Strange => Ok(Named::Strange),
+        }
+    }
+}
+
+/// A copy of what may be absent.
+fn copy_present<T: Duplicate>(item: &Option<T>, alloc: Global) -> Result<Option<T>, OutOfMemory>
+    ensures { IfOk result (λ made. made ≡ item.now) }
+{
+    match item {
+        Some(present) => Ok(Some(present.copy(alloc)?)),
+        None => Ok(None),
+    }
+}
+
+impl Duplicate for Ask {
+    fn copy(&self, alloc: Global) -> Result<Ask, OutOfMemory> {
+        Ok(Ask {
+            table: self.table,
+            columns: copy_present(&self.columns, alloc)?,
+            clause: copy_present(&self.clause, alloc)?,
+            identity: self.identity.copy(alloc)?,
+            named: self.named.copy(alloc)?,
+            offset: self.offset,
+            live: self.live,
+            cursor: self.cursor,
+        })
+    }
+}
