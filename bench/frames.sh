@@ -1,87 +1,55 @@
 #!/usr/bin/env bash
 # How fast the frames of a replication connection are taken: MB/s of frames_bench beside sha256sum on the same file, in the same run.
-# The file has about 60 MB: ten times a part that is made from a seed, transactions of a few changes as XLogData frames, and as many keepalives. With a
-# folder, as frames.sh FOLDER, its files NAME.wire (bytes that a server sent behind CopyBothResponse) come first, each whole. Fails where pieces of 64 KiB
-# are taken slower than sha256sum reads, or pieces of 100 bytes at less than 0.3 of that; where one frame of 64 MB is taken at less than a third of
-# sha256sum's speed; or where the counts are not those of the file. Skips where a tool is missing. Wants 200 MB of disk and memory.
+# The file has about 60 MB: what a real server sends of 40,000 changes (wire.py), again and again. With files NAME.wire (bytes that a server sent behind
+# CopyBothResponse), as frames.sh FILE.., those are taken in its place. Fails where pieces of 64 KiB are taken slower than sha256sum reads, or pieces of
+# 100 bytes at less than 0.3 of that; where one frame of 64 MB is taken at less than a third of sha256sum's speed; or where the counts are not those of
+# the file. Skips where a tool is missing. Wants 200 MB of disk and memory.
 set -u
-wires=
-[ $# = 0 ] || wires=$(realpath "$1") || exit 1
+wires=()
+for wire in "$@"; do wires+=("$(realpath "$wire")") || exit 1; done
 cd "$(dirname "$0")/.." || exit 1
 for tool in rt python3 sha256sum awk; do
     command -v "$tool" >/dev/null || { echo "frames.sh: skipped, there is no $tool"; exit 0; }
 done
 folder=$(mktemp -d) || exit 1
 trap 'rm -rf "$folder"' EXIT
+if [ "${#wires[@]}" = 0 ]; then
+    wires=("$folder/real.wire")
+    python3 bench/wire.py "$folder/real.wire" 40000
+    status=$?
+    [ "$status" = 2 ] && { echo "frames.sh: skipped, there is no PostgreSQL"; exit 0; }
+    [ "$status" = 0 ] || exit 1
+fi
 
-python3 - "$folder" "$wires" <<'PYTHON'
-import glob
-import random
+python3 - "$folder" "${wires[@]}" <<'PYTHON'
 import struct
 import sys
 
-rng = random.Random(60)
-PART = 6_000_000
+SIZE = 60_000_000
 
 
-def framed(payload):
-    return b'd' + struct.pack('>I', 4 + len(payload)) + payload
+def counted(stream):
+    """How many XLogData frames, bytes of their messages and keepalives there are."""
+    frames = size = keepalives = place = 0
+    while place < len(stream):
+        length = struct.unpack('>I', stream[place + 1:place + 5])[0]
+        kind = stream[place:place + 1] + stream[place + 5:place + 6]
+        frames += kind == b'dw'
+        size += length - 29 if kind == b'dw' else 0
+        keepalives += kind == b'dk'
+        place += 1 + length
+    return frames, size, keepalives
 
 
-def wal(lsn, message):
-    return framed(b'w' + struct.pack('>QQQ', lsn, lsn, 0) + message)
-
-
-def keepalive(lsn):
-    return framed(b'k' + struct.pack('>QQB', lsn, 0, 0))
-
-
-def row(number):
-    texts = [b'%d' % number, b'%d' % rng.randrange(1000), bytes(rng.choices(b'abcdefghij ', k=rng.randrange(60)))]
-    return struct.pack('>H', 3) + b''.join(b't' + struct.pack('>I', len(text)) + text for text in texts)
-
-
-def transaction(lsn, xid):
-    yield b'B' + struct.pack('>QqI', lsn, 0, xid)
-    for number in range(rng.randrange(1, 9)):
-        oid = struct.pack('>I', 16384)
-        yield rng.choice([b'I' + oid + b'N' + row(number), b'U' + oid + b'O' + row(number) + b'N' + row(number), b'D' + oid + b'O' + row(number)])
-    yield b'C' + struct.pack('>BQQq', 0, lsn, lsn + 48, 0)
-
-
-def part(counts):
-    pieces = []
-    size = 0
-    xid = 0
-    while size < PART:
-        xid += 1
-        for message in transaction(xid * 100, xid):
-            pieces.append(wal(xid * 100, message) + keepalive(xid * 100))
-            size += len(pieces[-1])
-            counts[0] += 10
-            counts[1] += 10 * len(message)
-            counts[2] += 10
-    return b''.join(pieces)
-
-
-counts = [0, 0, 0]
+stream = b''.join(open(path, 'rb').read() for path in sys.argv[2:])
+times = 1 + SIZE // len(stream)
 with open(sys.argv[1] + '/many', 'wb') as out:
-    for path in sorted(glob.glob(sys.argv[2] + '/*.wire')) if sys.argv[2] else []:
-        stream = open(path, 'rb').read()
-        place = 0
-        while place < len(stream):
-            length = struct.unpack('>I', stream[place + 1:place + 5])[0]
-            kind = stream[place:place + 1] + stream[place + 5:place + 6]
-            counts[0] += kind == b'dw'
-            counts[1] += length - 29 if kind == b'dw' else 0
-            counts[2] += kind == b'dk'
-            place += 1 + length
-        out.write(stream)
-    out.write(part(counts) * 10)
+    out.write(stream * times)
 with open(sys.argv[1] + '/many.wanted', 'w') as out:
-    out.write('frames %d of %d bytes, keepalives %d, rest 0\n' % tuple(counts))
+    out.write('frames %d of %d bytes, keepalives %d, rest 0\n' % tuple(times * count for count in counted(stream)))
 with open(sys.argv[1] + '/one', 'wb') as out:
-    out.write(wal(5, bytes(64_000_000)))
+    message = b'w' + struct.pack('>QQQ', 5, 5, 0) + bytes(64_000_000)
+    out.write(b'd' + struct.pack('>I', 4 + len(message)) + message)
 with open(sys.argv[1] + '/one.wanted', 'w') as out:
     out.write('frames 1 of 64000000 bytes, keepalives 0, rest 0\n')
 PYTHON
