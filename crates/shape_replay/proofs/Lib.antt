@@ -19,6 +19,7 @@ pub mod Streams
 pub mod Courses
 pub mod Steps
 pub mod Rights
+pub mod Lengths
 pub mod Sizes
 pub mod Heads
 pub mod Worked

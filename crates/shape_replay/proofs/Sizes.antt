@@ -7,11 +7,8 @@ use Rattle.std.proofs.lemmas.Bool.{cases_lt, le-ltb, lt-ltb}
 use Rattle.std.proofs.lemmas.List.{length-drop, length-take}
 use Rattle.byte_format.specs.Format.{int32}
 use Rattle.byte_format.specs.Whole.{whole}
-use Rattle.byte_format.proofs.Wholes.{whole_takes}
-use Rattle.byte_format.proofs.Codec.{IsBytes, IsBytes-take, IsBytes-drop}
 use Rattle.pgout.specs.declared.message.Message.{Message}
 use Rattle.pgout.specs.Grammar.{message, spelled}
-use Rattle.pgout.proofs.MessageLaws.{message_placed}
 use Rattle.shape_replay.specs.declared.record.Declaration.{Declaration}
 use Rattle.shape_replay.specs.declared.record.Snapshot.{Snapshot}
 use Rattle.shape_replay.specs.declared.record.Record.{Record}
@@ -19,6 +16,7 @@ use Rattle.shape_replay.specs.declared.record.Record.TheVariants as records
 use Rattle.shape_replay.specs.Script.{Item, item_at, payload_at, items_then, items_in, items_of}
 use Rattle.shape_replay.specs.Record.{read_ok, all_of, declared, given, declaration, snapshot, record_of}
 use Rattle.shape_replay.specs.Headline.{message_then, messages_in}
+use Rattle.shape_replay.proofs.Lengths.{message_long}
 use Rattle.shape_replay.proofs.Streams.{sizes}
 
 -- ---- one record
@@ -59,62 +57,62 @@ message_in item m h =
     (rw (← mapped_twice declared records.Table (all_of declaration item.payload), ← mapped_twice given records.Snapshot (all_of snapshot item.payload)) h)
 
 -- a message is as long as its record's payload
-message_long : (item : Item) (m : Message) → IsBytes item.payload → record_of item ≡ Some (records.Message m) → length (spelled m) ≡ length item.payload
-message_long item m bytes h = sym (ap length (whole_takes message_placed.codec item.payload m bytes (read_is (whole message item.payload) m (message_in item m h))).1)
+payload_long : (item : Item) (m : Message) → record_of item ≡ Some (records.Message m) → length (spelled m) ≡ length item.payload
+payload_long item m h = message_long item.payload m (read_is (whole message item.payload) m (message_in item m h))
 
-size_then : (item : Item) (r : Option Record) (ms : List Message) → record_of item ≡ r → IsBytes item.payload → sizes (message_then r ms) ≤ length item.payload + sizes ms
-size_then item None ms h bytes = omega arith
-size_then item (Some (records.Message m)) ms h bytes = let e = message_long item m bytes h in omega (arith, e)
-size_then item (Some (records.Table d)) ms h bytes = omega arith
-size_then item (Some (records.NewClient pairs)) ms h bytes = omega arith
-size_then item (Some (records.Watch n)) ms h bytes = omega arith
-size_then item (Some (records.Snapshot g)) ms h bytes = omega arith
-size_then item (Some records.End) ms h bytes = omega arith
+size_then : (item : Item) (r : Option Record) (ms : List Message) → record_of item ≡ r → sizes (message_then r ms) ≤ length item.payload + sizes ms
+size_then item None ms h = omega arith
+size_then item (Some (records.Message m)) ms h = let e = payload_long item m h in omega (arith, e)
+size_then item (Some (records.Table d)) ms h = omega arith
+size_then item (Some (records.NewClient pairs)) ms h = omega arith
+size_then item (Some (records.Watch n)) ms h = omega arith
+size_then item (Some (records.Snapshot g)) ms h = omega arith
+size_then item (Some records.End) ms h = omega arith
 
 -- ---- all records
 
 abbrev IsCut : List ℕ → Option (Item × List ℕ) → Type 0
 IsCut bytes None = Unit {0}
-IsCut bytes (Some found) = (length found.0.payload + length found.1 + 5 ≤ length bytes) × IsBytes found.0.payload × IsBytes found.1
+IsCut bytes (Some found) = length found.0.payload + length found.1 + 5 ≤ length bytes
 
-payload_cut : (kind n : ℕ) (bytes longer : List ℕ) → length bytes + 5 ≤ length longer → IsBytes bytes → IsCut longer (payload_at kind n bytes)
-payload_cut kind n bytes longer h are =
+payload_cut : (kind n : ℕ) (bytes longer : List ℕ) → length bytes + 5 ≤ length longer → IsCut longer (payload_at kind n bytes)
+payload_cut kind n bytes longer h =
     elim (cases_lt (length bytes) n) [
       | inl lt ↦ subst (λ (b : Bool). IsCut longer (cond b None (Some (record { kind = kind; payload = take n bytes }, drop n bytes)))) (sym (lt-ltb _ _ lt)) tt
       | inr le ↦ subst (λ (b : Bool). IsCut longer (cond b None (Some (record { kind = kind; payload = take n bytes }, drop n bytes)))) (sym (le-ltb _ _ le))
-          (let d = length-drop n bytes in let t = length-take n bytes in (omega (arith, d, t, h, le), IsBytes-take n bytes are, IsBytes-drop n bytes are))
+          (let d = length-drop n bytes in let t = length-take n bytes in omega (arith, d, t, h, le))
     ]
 
-item_is_cut : (bytes : List ℕ) → IsBytes bytes → IsCut bytes (item_at bytes)
-item_is_cut [] h = tt
-item_is_cut (_ ∷ []) h = tt
-item_is_cut (_ ∷ _ ∷ []) h = tt
-item_is_cut (_ ∷ _ ∷ _ ∷ []) h = tt
-item_is_cut (_ ∷ _ ∷ _ ∷ _ ∷ []) h = tt
-item_is_cut (k ∷ a ∷ b ∷ c ∷ d ∷ bytes) h = payload_cut k (from_be_bytes w32 (a ∷ b ∷ c ∷ d ∷ [])) bytes (k ∷ a ∷ b ∷ c ∷ d ∷ bytes) (omega arith) h.1.1.1.1.1
+item_is_cut : (bytes : List ℕ) → IsCut bytes (item_at bytes)
+item_is_cut [] = tt
+item_is_cut (_ ∷ []) = tt
+item_is_cut (_ ∷ _ ∷ []) = tt
+item_is_cut (_ ∷ _ ∷ _ ∷ []) = tt
+item_is_cut (_ ∷ _ ∷ _ ∷ _ ∷ []) = tt
+item_is_cut (k ∷ a ∷ b ∷ c ∷ d ∷ bytes) = payload_cut k (from_be_bytes w32 (a ∷ b ∷ c ∷ d ∷ [])) bytes (k ∷ a ∷ b ∷ c ∷ d ∷ bytes) (omega arith)
 
-sizes_then : (bytes : List ℕ) (n : ℕ) (found : Option (Item × List ℕ)) → IsCut bytes found → ((rest : List ℕ) → IsBytes rest → sizes (messages_in (items_in n rest)) ≤ length rest - 5) → sizes (messages_in (items_then (items_in n) found)) ≤ length bytes - 5
+sizes_then : (bytes : List ℕ) (n : ℕ) (found : Option (Item × List ℕ)) → IsCut bytes found → ((rest : List ℕ) → sizes (messages_in (items_in n rest)) ≤ length rest - 5) → sizes (messages_in (items_then (items_in n) found)) ≤ length bytes - 5
 sizes_then bytes n None cut rest = omega arith
 sizes_then bytes n (Some found) cut rest =
-    let one = size_then found.0 (record_of found.0) (messages_in (items_in n found.1)) refl cut.1 in
-    let others = rest found.1 cut.2 in
-    let all = cut.0 in
+    let one = size_then found.0 (record_of found.0) (messages_in (items_in n found.1)) refl in
+    let others = rest found.1 in
+    let all = cut in
     omega (arith, one, others, all)
 
-sizes_in : (n : ℕ) (bytes : List ℕ) → IsBytes bytes → sizes (messages_in (items_in n bytes)) ≤ length bytes - 5
+sizes_in : (n : ℕ) (bytes : List ℕ) → sizes (messages_in (items_in n bytes)) ≤ length bytes - 5
 unfolding items_in
-sizes_in zero bytes h = omega arith
-sizes_in (suc n) bytes h = sizes_then bytes n (item_at bytes) (item_is_cut bytes h) (λ rest are. sizes_in n rest are)
+sizes_in zero bytes = omega arith
+sizes_in (suc n) bytes = sizes_then bytes n (item_at bytes) (item_is_cut bytes) (λ rest. sizes_in n rest)
 
-pub sizes_within : (bytes : List ℕ) → IsBytes bytes → sizes (messages_in (items_of bytes)) ≤ length bytes - 5
+pub sizes_within : (bytes : List ℕ) → sizes (messages_in (items_of bytes)) ≤ length bytes - 5
 unfolding items_of
-sizes_within bytes h = sizes_in (length bytes) bytes h
+sizes_within bytes = sizes_in (length bytes) bytes
 
-pub sizes_in_first : (n : ℕ) (bytes : List ℕ) → IsBytes bytes → sizes (messages_in (items_of (take n bytes))) ≤ n
-sizes_in_first n bytes h =
-    let s = sizes_within (take n bytes) (IsBytes-take n bytes h) in
+pub sizes_in_first : (n : ℕ) (bytes : List ℕ) → sizes (messages_in (items_of (take n bytes))) ≤ n
+sizes_in_first n bytes =
+    let s = sizes_within (take n bytes) in
     let t = length-take n bytes in
     omega (arith, s, t)
 
-pub sizes_below : (n : ℕ) (bytes : List ℕ) → IsBytes bytes → length bytes ≤ n + 1 → sizes (messages_in (items_of bytes)) ≤ n
-sizes_below n bytes h le = let s = sizes_within bytes h in omega (arith, s, le)
+pub sizes_below : (n : ℕ) (bytes : List ℕ) → length bytes ≤ n + 1 → sizes (messages_in (items_of bytes)) ≤ n
+sizes_below n bytes le = let s = sizes_within bytes in omega (arith, s, le)

@@ -1,6 +1,5 @@
 //! The whole program, over any source and sinks.
-ghost use Rattle.std.specs.Prelude.{◌≡◌, ◌≢◌, ◌↔◌, ◌+◌, ◌<◌, ◌≤◌, ◌++◌, true, length, take, nat_lt, IsTrue, Some, codes};
-ghost use Rattle.std.specs.List.{AllByRecursion};
+ghost use Rattle.std.specs.Prelude.{◌≡◌, ◌≢◌, ◌↔◌, ◌+◌, ◌≤◌, ◌++◌, true, length, take, nat_lt, IsTrue, Some, codes};
 ghost use Rattle.std.specs.String.{string_bytes};
 ghost use Rattle.shape_base.specs.Outside.{Rose, AddsFront};
 ghost use Rattle.shape_replay.specs.Text.{text_of};
@@ -89,9 +88,9 @@ pub fn run<S: Source, K: Sink, E: Sink>(
     ensures told { E.tells ≡ true → result ≢ 0 → IsTold result (E.written err.old) (E.written err.new) (E.failed_writes err.old) (E.failed_writes err.new) }
     ensures silent { result ≡ 0 → E.written err.new ≡ E.written err.old }
     // The headline: each block that is written is the shape's rows of a committed prefix, for each history that the records may tell of.
-    ensures headline { S.tells ≡ true → K.tells ≡ true → AreReplay words.now → AllByRecursion (λ b. b < 256) (S.left input.old) → result ≢ 3 →
+    ensures headline { S.tells ≡ true → K.tells ≡ true → AreReplay words.now → result ≢ 3 →
         IsHeadline (K.written out.old) (K.written out.new) (items_of (take 67108864 (S.left input.old))) }
-    ensures headline_read { S.tells ≡ true → K.tells ≡ true → AreReplay words.now → AllByRecursion (λ b. b < 256) (since (S.given input.old) (S.given input.new)) → result ≡ 3 →
+    ensures headline_read { S.tells ≡ true → K.tells ≡ true → AreReplay words.now → result ≡ 3 →
         IsHeadline (K.written out.old) (K.written out.new) (items_of (since (S.given input.old) (S.given input.new))) }
     // How much is read.
     ensures given { S.tells ≡ true → length (S.given input.new) ≤ length (S.given input.old) + 67108865 }

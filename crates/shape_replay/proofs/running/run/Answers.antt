@@ -11,15 +11,15 @@ returns-in-Err-clause-front g c t u _ n = front_of c.play.result _ _ _ _
     (c.play.ensures.wrote t u)
 
 pub returns-in-Ok-clause-headline : goal.returns-in-Ok-clause-headline
-returns-in-Ok-clause-headline g c t u _ b _ = headline_in _ _ _ b (front_of c.play.result _ _ _ _ (λ e. let h = c.in-Ok.is in cc) (c.play.ensures.wrote t u))
+returns-in-Ok-clause-headline g c t u _ _ = headline_in _ _ _ (front_of c.play.result _ _ _ _ (λ e. let h = c.in-Ok.is in cc) (c.play.ensures.wrote t u))
 
 pub returns-in-Err-clause-headline : goal.returns-in-Err-clause-headline
-returns-in-Err-clause-headline g c t u _ b n = headline_in _ _ _ b (front_of c.play.result _ _ _ _
+returns-in-Err-clause-headline g c t u _ n = headline_in _ _ _ (front_of c.play.result _ _ _ _
     (λ e. let s : c.in-Err.stop ≡ stops.ReadFault = (let h = c.in-Err.is in cc) in n (c.complain-in-Err.ensures.status ∙ ap status_of s))
     (c.play.ensures.wrote t u))
 
 pub returns-in-Err-clause-headline_read : goal.returns-in-Err-clause-headline_read
-returns-in-Err-clause-headline_read g c t u _ b e = headline_read _ _ _ _ b (c.play.ensures.given t)
+returns-in-Err-clause-headline_read g c t u _ e = headline_read _ _ _ _ (c.play.ensures.given t)
     (wrote_read c.play.result c.in-Err.stop _ _ _ _ c.in-Err.is (read_fault c.in-Err.stop (sym c.complain-in-Err.ensures.status ∙ e)) (c.play.ensures.wrote t u))
 
 pub returns-then-not-is_replay-clause-told : goal.returns-then-not-is_replay-clause-told
