@@ -2,34 +2,26 @@
 # Shows that parsing, printing and dropping a clause take time linear in its text: a clause of ten times as many OR
 # members may take at most twelve times as long. The largest text has 16 MB.
 set -eu
-cd "$(dirname "$0")/../crates/clause_lines"
+cd "$(dirname "$0")"
+. ./timing.sh
+cd ../crates/clause_lines
 [ -x out/clause_lines ] || rt run < /dev/null > /dev/null
-folder=$(mktemp -d)
-trap 'rm -rf "$folder"' EXIT
 
 # clause COUNT: a clause of that many members, on one line
 clause() {
     awk -v n="$1" 'BEGIN { for (i = 1; i < n; i++) printf "a = 1 OR "; print "a = 1" }'
 }
 
-# seconds FILE: the best of three runs
-seconds() {
-    best=
-    for _ in 1 2 3; do
-        start=$(date +%s.%N)
-        out/clause_lines < "$1" > "$folder/answer"
-        end=$(date +%s.%N)
-        took=$(awk -v a="$start" -v b="$end" 'BEGIN { print b - a }')
-        best=$(awk -v a="$took" -v b="${best:-$took}" 'BEGIN { print (a < b) ? a : b }')
-    done
-    head -c 9 "$folder/answer" | grep -q '^"a" = 1' || { echo "not read: $(head -c 80 "$folder/answer")"; exit 1; }
-    echo "$best"
+# read_in FILE: the least seconds of reading and printing the clause of a file
+read_in() {
+    seconds 3 "$folder/$1" out/clause_lines || return 1
+    head -c 9 "$answer" | grep -q '^"a" = 1' || { echo "not read: $(head -c 80 "$answer")" >&2; return 1; }
 }
 
 clause 186000 > "$folder/small"
 clause 1860000 > "$folder/large"
-small=$(seconds "$folder/small")
-large=$(seconds "$folder/large")
+small=$(read_in small)
+large=$(read_in large)
 echo "$(wc -c < "$folder/small") bytes: $small s"
 echo "$(wc -c < "$folder/large") bytes: $large s"
 awk -v a="$small" -v b="$large" 'BEGIN { printf "%.1f times the time for ten times the text\n", b / a; exit (b > 12 * a) }'
@@ -65,21 +57,13 @@ members() {
 row ' ' | awk -v n="$times" '{ for (i = 0; i < n; i++) print }' > "$folder/rows"
 printf '%s { found++ } END { print found + 0 }\n' "$(members '||' '$%d == %d')" > "$folder/test.awk"
 
-# took COMMAND..: the seconds of its best of three runs; it has to find no row
-took() {
-    best=
-    for _ in 1 2 3; do
-        start=$(date +%s.%N)
-        found=$("$@")
-        end=$(date +%s.%N)
-        [ "$found" = 0 ] || { echo "found: $found" >&2; exit 1; }
-        best=$(awk -v a="$start" -v b="$end" -v c="${best:-1e9}" 'BEGIN { d = b - a; print (d < c) ? d : c }')
-    done
-    echo "$best"
+# finding FILE COMMAND..: the least seconds of a command that reads the file; it has to find no row
+finding() {
+    seconds 3 "$@" || return 1
+    [ "$(cat "$answer")" = 0 ] || { echo "found: $(cat "$answer")" >&2; return 1; }
 }
 
-evaluate() { out/truth_table < "$folder/clause"; }
-ours=$(took evaluate)
-theirs=$(took awk -f "$folder/test.awk" "$folder/rows")
+ours=$(finding "$folder/clause" out/truth_table)
+theirs=$(finding "$folder/rows" awk -f "$folder/test.awk")
 echo "awk: $(awk -v n="$times" -v t="$theirs" 'BEGIN { printf "%d", n / t }') rows a second"
 awk -v n="$times" -v t="$ours" 'BEGIN { printf "truth: %d rows a second\n", n / t; exit (n / t < 2000) }'

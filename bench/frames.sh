@@ -8,11 +8,8 @@ set -u
 wires=()
 for wire in "$@"; do wires+=("$(realpath "$wire")") || exit 1; done
 cd "$(dirname "$0")/.." || exit 1
-for tool in rt python3 sha256sum awk; do
-    command -v "$tool" >/dev/null || { echo "frames.sh: skipped, there is no $tool"; exit 0; }
-done
-folder=$(mktemp -d) || exit 1
-trap 'rm -rf "$folder"' EXIT
+. bench/timing.sh
+needs rt python3 sha256sum awk
 if [ "${#wires[@]}" = 0 ]; then
     wires=("$folder/real.wire")
     python3 bench/wire.py "$folder/real.wire" 40000
@@ -57,32 +54,17 @@ PYTHON
 [ -x crates/frames_bench/out/frames_bench ] || (cd crates/frames_bench && rt run -- 7 < stdin > /dev/null 2>&1) || { echo "frames.sh: frames_bench does not run"; exit 1; }
 program=crates/frames_bench/out/frames_bench
 
-# seconds FILE WORDS..: the best of three runs, with the file as input
-seconds() {
-    file=$1
-    shift
-    best=
-    for _ in 1 2 3; do
-        start=$(date +%s.%N)
-        "$@" < "$folder/$file" > "$folder/answer" || { echo "frames.sh: $1 fails" >&2; exit 1; }
-        end=$(date +%s.%N)
-        took=$(awk -v a="$start" -v b="$end" 'BEGIN { print b - a }')
-        best=$(awk -v a="$took" -v b="${best:-$took}" 'BEGIN { print (a < b) ? a : b }')
-    done
-    echo "$best"
-}
-
-# taken FILE SIZE: the same for the program, whose answer has to be the one that is wanted
+# taken FILE SIZE: the least seconds of the program over the file in pieces of this size; its answer has to be the one that is wanted
 taken() {
-    seconds "$1" "$program" "$2" || exit 1
-    cmp -s "$folder/answer" "$folder/$1.wanted" || { echo "frames.sh: $1 in pieces of $2 gives $(cat "$folder/answer")" >&2; exit 1; }
+    seconds 3 "$folder/$1" "$program" "$2" || return 1
+    cmp -s "$answer" "$folder/$1.wanted" || { echo "frames.sh: $1 in pieces of $2 gives $(cat "$answer")" >&2; return 1; }
 }
 
 status=0
-hashing=$(seconds many sha256sum) || exit 1
+hashing=$(seconds 3 "$folder/many" sha256sum) || exit 1
 large=$(taken many 65536) || exit 1
 small=$(taken many 100) || exit 1
-hashing_one=$(seconds one sha256sum) || exit 1
+hashing_one=$(seconds 3 "$folder/one" sha256sum) || exit 1
 large_one=$(taken one 65536) || exit 1
 small_one=$(taken one 100) || exit 1
 cat "$folder/many.wanted"

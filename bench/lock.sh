@@ -1,25 +1,18 @@
-#!/bin/sh
+#!/usr/bin/env bash
 # Times 4 threads that add 250,000 numbers each to one list, under a FrontLock, under std's Mutex in the same program,
 # and, where rustc is there, under the Mutex of Rust's std. Prints the least time of five runs of each, and fails where
 # the FrontLock takes more than 3 times as long as std's Mutex.
-set -eu
+set -euo pipefail
 each=${1:-250000}
 top=$(cd "$(dirname "$0")/.." && pwd)
-command -v rt >/dev/null || { echo "skipped: no rt"; exit 0; }
+. "$top/bench/timing.sh"
+needs rt
 [ -x "$top/crates/lock_bench/out/lock_bench" ] || (cd "$top/crates/lock_bench" && rt run <stdin >/dev/null 2>&1) || { echo "lock_bench does not run"; exit 1; }
 program=$top/crates/lock_bench/out/lock_bench
 
-# Prints the least of five times, in milliseconds.
+# least COMMAND..: the least of five times, in milliseconds
 least() {
-    best=
-    for _ in 1 2 3 4 5; do
-        from=$(date +%s%N)
-        "$@" >/dev/null
-        to=$(date +%s%N)
-        took=$(((to - from) / 1000000))
-        if [ -z "$best" ] || [ "$took" -lt "$best" ]; then best=$took; fi
-    done
-    echo "$best"
+    seconds 5 /dev/null "$@" | awk '{ printf "%d", $1 * 1000 }'
 }
 
 run() { echo "$1 $each" | "$program"; }
@@ -29,8 +22,6 @@ lock=$(least run lock)
 echo "std's Mutex: $mutex ms"
 echo "FrontLock: $lock ms"
 if command -v rustc >/dev/null; then
-    folder=$(mktemp -d)
-    trap 'rm -r "$folder"' EXIT
     cat >"$folder/mutex.rs" <<'END'
 use std::sync::Mutex;
 

@@ -6,11 +6,8 @@
 # Skips where a tool is missing. Wants 250 MB of disk and 1.3 GB of memory.
 set -u
 cd "$(dirname "$0")/.." || exit 1
-for tool in rt python3 sha256sum awk; do
-    command -v "$tool" >/dev/null || { echo "replay.sh: skipped, there is no $tool"; exit 0; }
-done
-folder=$(mktemp -d) || exit 1
-trap 'rm -rf "$folder"' EXIT
+. bench/timing.sh
+needs rt python3 sha256sum awk
 
 python3 - "$folder" <<'PYTHON'
 import random
@@ -73,24 +70,10 @@ PYTHON
 [ -x crates/shape_replay/out/shape_replay ] || (cd crates/shape_replay && rt run -- replay < stdin > /dev/null 2>&1) || { echo "replay.sh: shape_replay does not run"; exit 1; }
 program=$PWD/crates/shape_replay/out/shape_replay
 
-# seconds FILE WORDS..: the best of three runs with the file as input
-seconds() {
-    best= file=$1
-    shift
-    for _ in 1 2 3; do
-        start=$(date +%s.%N)
-        "$@" < "$file" > "$folder/answer" || { echo "replay.sh: $1 fails" >&2; exit 1; }
-        end=$(date +%s.%N)
-        took=$(awk -v a="$start" -v b="$end" 'BEGIN { print b - a }')
-        best=$(awk -v a="$took" -v b="${best:-$took}" 'BEGIN { print (a < b) ? a : b }')
-    done
-    echo "$best"
-}
-
-hashing=$(seconds "$folder/large" sha256sum) || exit 1
-small=$(seconds "$folder/small" "$program" replay) || exit 1
-large=$(seconds "$folder/large" "$program" replay) || exit 1
-tail -1 "$folder/answer"
+hashing=$(seconds 3 "$folder/large" sha256sum) || exit 1
+small=$(seconds 3 "$folder/small" "$program" replay) || exit 1
+large=$(seconds 3 "$folder/large" "$program" replay) || exit 1
+tail -1 "$answer"
 peak=$(python3 - "$program" "$folder/large" <<'PYTHON'
 import resource
 import subprocess

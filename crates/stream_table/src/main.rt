@@ -1,17 +1,19 @@
-//! Reads lines of words such as `B5 R1:public:t:ab I1:xy C5`, feeds the messages that they stand for to one assembler a line, and prints what the last one is
+//! Reads lines of words such as `B5 R16384:public:t:ab I16384:xy C5`, feeds the messages that they stand for to one assembler a line, and prints what the last one is
 //! answered: a table of cases for `tx_assembler`.
 //!
 //! | Word | Message |
 //! |---|---|
 //! | `B5`, `C5` | Begin, Commit with this LSN |
-//! | `R1:public:t:ab` | Relation of OID 1, with columns `a` and `b` |
-//! | `I1:xy`, `U1:xy:xz`, `D1:xy` | Insert, Update and Delete with the whole old row |
-//! | `K1:xy:xz`, `N1:xz`, `E1:xy` | Update with a key, Update with no old row, Delete with a key |
-//! | `T1,2` | Truncate |
+//! | `R16384:public:t:ab` | Relation of OID 16384, with columns `a` and `b` |
+//! | `I16384:xy`, `U16384:xy:xz`, `D16384:xy` | Insert, Update and Delete with the whole old row |
+//! | `K16384:xy:xz`, `N16384:xz`, `E16384:xy` | Update with a key, Update with no old row, Delete with a key |
+//! | `L16384:500` | Insert of one column, a text of 500 bytes, so a message of 513 |
+//! | `T16384,16385` | Truncate |
 //! | `O`, `Y`, `M` | Origin, Type, a logical message |
 //! | `X` | none: the stream begins anew |
 //!
 //! In a row each character is a column: `-` is null, `?` was not sent, `!` is binary, `^` is a byte that is no UTF-8 (in names too), `~` is `a` and such a byte.
+//! A text of more than 16 bytes is printed as the number of its bytes in brackets.
 #![tactic(auto)]
 
 mod printing;

@@ -3,31 +3,40 @@ use shape_base::row::{Change, ChangeKind, Row, TableDef, Tx, Value};
 use std::alloc::{AllocError, Global};
 use tx_assembler::{AssembleError, Fed};
 
-fn put_row(out: &mut String, row: &Row) -> Result<(), AllocError> {
+/// A text, or the number of its bytes where it is long.
+fn put_text(alloc: Global, out: &mut String, text: &str) -> Result<(), AllocError> {
+    if text.len() <= 16 {
+        return out.push_str(text);
+    }
+    let size = format!(in alloc; "({})", text.len())?;
+    out.push_str(size.as_str())
+}
+
+fn put_row(alloc: Global, out: &mut String, row: &Row) -> Result<(), AllocError> {
     for value in row.as_slice() {
         match value {
             Value::Null => out.push('-')?,
-            Value::Words(text) => out.push_str(text.as_str())?,
+            Value::Words(text) => put_text(alloc, out, text.as_str())?,
         }
     }
     Ok(())
 }
 
-fn put_change(out: &mut String, change: &Change) -> Result<(), AllocError> {
+fn put_change(alloc: Global, out: &mut String, change: &Change) -> Result<(), AllocError> {
     match &change.kind {
         ChangeKind::Insert { new } => {
             out.push('+')?;
-            put_row(out, new)
+            put_row(alloc, out, new)
         }
         ChangeKind::Update { old, new } => {
             out.push('*')?;
-            put_row(out, old)?;
+            put_row(alloc, out, old)?;
             out.push('>')?;
-            put_row(out, new)
+            put_row(alloc, out, new)
         }
         ChangeKind::Delete { old } => {
             out.push('-')?;
-            put_row(out, old)
+            put_row(alloc, out, old)
         }
         ChangeKind::Truncate => {
             out.push('0')?;
@@ -57,7 +66,7 @@ fn tx_line(alloc: Global, tx: &Tx) -> Result<String, AllocError> {
     for change in tx.changes.as_slice() {
         let place = format!(in alloc; " {}", change.def)?;
         line.push_str(place.as_str())?;
-        put_change(&mut line, change)?;
+        put_change(alloc, &mut line, change)?;
     }
     Ok(line)
 }

@@ -101,6 +101,18 @@ fn put_two(out: &mut Vec<u8>, oid: u32, tag: u8, rows: &str) -> Result<(), Alloc
     put_row(out, b'N', new)
 }
 
+/// An Insert of one column, a text of so many bytes.
+fn put_large(out: &mut Vec<u8>, oid: u32, size: &str) -> Result<(), AllocError> {
+    let size = size.parse::<u32>().unwrap_or(0);
+    put_head(out, b'I', oid)?;
+    out.extend_from_slice(b"N\x00\x01t")?;
+    put_u32(out, size)?;
+    for _ in 0..size {
+        out.push(b'x')?;
+    }
+    Ok(())
+}
+
 /// A change of a table, by its letter.
 fn put_change(out: &mut Vec<u8>, letter: &str, oid: u32, rest: &str) -> Result<(), AllocError> {
     match letter {
@@ -110,6 +122,7 @@ fn put_change(out: &mut Vec<u8>, letter: &str, oid: u32, rest: &str) -> Result<(
         "K" => put_two(out, oid, b'K', rest),
         "D" => put_one(out, b'D', oid, b'O', rest),
         "E" => put_one(out, b'D', oid, b'K', rest),
+        "L" => put_large(out, oid, rest),
         _ => Ok(()),
     }
 }

@@ -1,6 +1,7 @@
 //! The first faulty node of a clause.
-ghost use Rattle.std.specs.Prelude.{◌≡◌, ◌∷◌, [], ◌&&◌, Option};
+ghost use Rattle.std.specs.Prelude.{◌≡◌, ◌∷◌, [], ◌&&◌, Option, false};
 ghost use Rattle.pg_values.specs.declared.kind.Kind.TheVariants.{Boolean};
+ghost use Rattle.where_grammar.specs.Tree.{NotOf, IsOf, DistinctOf, WithinOf, BetweenOf, LikeOf};
 ghost use Rattle.where_parser.specs.View.{tree_of, trees_of};
 ghost use Rattle.where_eval.specs.Leaves.{listed, next as next_number, next_all};
 ghost use Rattle.where_eval.specs.Kinds.{common, is_bad_literal as is_bad};
@@ -200,6 +201,78 @@ fn truths(columns: &Columns, number: u32, list: &Exprs) -> Result<u32, CheckErro
     Ok(found.next)
 }
 
+/// The operand of NOT.
+#[cycle(asking)]
+fn denied(columns: &Columns, number: u32, inner: &Expr) -> Result<u32, CheckError>
+    ensures { PassesTo result (fault_in columns.now number (NotOf (tree_of inner.now))) (next_number number (NotOf (tree_of inner.now))) }
+{
+    let next = fault(columns, number, inner)?;
+    ask_one(columns, Kind::Boolean, number, inner)?;
+    Ok(next)
+}
+
+/// The operand of a test with IS and with IS NOT.
+#[cycle(asking)]
+fn tested(columns: &Columns, number: u32, left: &Expr, test: IsTest) -> Result<u32, CheckError>
+    ensures { PassesTo result (fault_in columns.now number (IsOf (tree_of left.now) false test)) (next_number number (IsOf (tree_of left.now) false test)) }
+{
+    let next = fault(columns, number, left)?;
+    ask_by_test(columns, number, left, test)?;
+    Ok(next)
+}
+
+/// The sides of a comparison, or of IS DISTINCT FROM, which asks the same of them.
+#[cycle(asking)]
+fn sides(columns: &Columns, number: u32, left: &Expr, right: &Expr) -> Result<u32, CheckError>
+    ensures { PassesTo result (fault_in columns.now number (DistinctOf (tree_of left.now) false (tree_of right.now))) (next_number number (DistinctOf (tree_of left.now) false (tree_of right.now))) }
+{
+    let second = fault(columns, number, left)?;
+    let next = fault(columns, second, right)?;
+    ask_two(columns, number, left, second, right)?;
+    Ok(next)
+}
+
+/// The left side and the list of IN and of NOT IN.
+#[cycle(asking)]
+fn within(columns: &Columns, number: u32, left: &Expr, list: &Exprs) -> Result<u32, CheckError>
+    ensures { PassesTo result (fault_in columns.now number (WithinOf (tree_of left.now) false (trees_of list.now))) (next_number number (WithinOf (tree_of left.now) false (trees_of list.now))) }
+{
+    let second = fault(columns, number, left)?;
+    let kind = kind_of_list(columns, left, list);
+    let found = members(columns, kind, second, list)?;
+    ask_list(columns, number, left, list, found.bad)?;
+    Ok(found.next)
+}
+
+/// The parts of BETWEEN and of NOT BETWEEN.
+#[cycle(asking)]
+fn between(
+    columns: &Columns,
+    number: u32,
+    left: &Expr,
+    low: &Expr,
+    high: &Expr,
+) -> Result<u32, CheckError>
+    ensures { PassesTo result (fault_in columns.now number (BetweenOf (tree_of left.now) false (tree_of low.now) (tree_of high.now))) (next_number number (BetweenOf (tree_of left.now) false (tree_of low.now) (tree_of high.now))) }
+{
+    let second = fault(columns, number, left)?;
+    let third = fault(columns, second, low)?;
+    let next = fault(columns, third, high)?;
+    ask_three(columns, number, left, second, low, third, high)?;
+    Ok(next)
+}
+
+/// The left side of LIKE and of NOT LIKE, and the pattern, which is a leaf.
+#[cycle(asking)]
+fn like(columns: &Columns, number: u32, left: &Expr, pattern: &Text) -> Result<u32, CheckError>
+    ensures { PassesTo result (fault_in columns.now number (LikeOf (tree_of left.now) false pattern.now)) (next_number number (LikeOf (tree_of left.now) false pattern.now)) }
+{
+    let second = fault(columns, number, left)?;
+    ask_one(columns, Kind::Text, number, left)?;
+    ask_pattern(second, pattern)?;
+    Ok(stepped(second))
+}
+
 /// Looks for the first faulty node of a tree whose first leaf has this number, parts before the whole and left to
 /// right, and answers the number of the leaf behind the tree.
 #[cycle(asking)]
@@ -209,53 +282,18 @@ pub fn fault(columns: &Columns, number: u32, expr: &Expr) -> Result<u32, CheckEr
     match expr {
         Expr::Or(list) => truths(columns, number, list),
         Expr::And(list) => truths(columns, number, list),
-        Expr::Not(inner) => {
-            let next = fault(columns, number, inner)?;
-            ask_one(columns, Kind::Boolean, number, inner)?;
-            Ok(next)
-        }
-        Expr::Is { left, test, .. } => {
-            let next = fault(columns, number, left)?;
-            ask_by_test(columns, number, left, *test)?;
-            Ok(next)
-        }
-        Expr::Distinct { left, right, .. } => {
-            let second = fault(columns, number, left)?;
-            let next = fault(columns, second, right)?;
-            ask_two(columns, number, left, second, right)?;
-            Ok(next)
-        }
-        Expr::Cmp { left, right, .. } => {
-            let second = fault(columns, number, left)?;
-            let next = fault(columns, second, right)?;
-            ask_two(columns, number, left, second, right)?;
-            Ok(next)
-        }
-        Expr::Within { left, list, .. } => {
-            let second = fault(columns, number, left)?;
-            let kind = kind_of_list(columns, left, list);
-            let found = members(columns, kind, second, list)?;
-            ask_list(columns, number, left, list, found.bad)?;
-            Ok(found.next)
-        }
+        Expr::Not(inner) => denied(columns, number, inner),
+        Expr::Is { left, test, .. } => tested(columns, number, left, *test),
+        Expr::Distinct { left, right, .. } => sides(columns, number, left, right),
+        Expr::Cmp { left, right, .. } => sides(columns, number, left, right),
+        Expr::Within { left, list, .. } => within(columns, number, left, list),
         Expr::Between {
             left,
             low,
             high,
             ..
-        } => {
-            let second = fault(columns, number, left)?;
-            let third = fault(columns, second, low)?;
-            let next = fault(columns, third, high)?;
-            ask_three(columns, number, left, second, low, third, high)?;
-            Ok(next)
-        }
-        Expr::Like { left, pattern, .. } => {
-            let second = fault(columns, number, left)?;
-            ask_one(columns, Kind::Text, number, left)?;
-            ask_pattern(second, pattern)?;
-            Ok(stepped(second))
-        }
+        } => between(columns, number, left, low, high),
+        Expr::Like { left, pattern, .. } => like(columns, number, left, pattern),
         Expr::Name(_) | Expr::Int(_) | Expr::Quoted(_) | Expr::Bool(_) | Expr::Null => {
             Ok(stepped(number))
         }

@@ -1,7 +1,8 @@
 //! From the tree of a clause to its plan.
 ghost use Rattle.std.specs.Prelude.{◌≡◌, IfOk, map};
 ghost use Rattle.shape_base.specs.Tables.{Values};
-ghost use Rattle.where_grammar.specs.Tree.{NameOf};
+ghost use Rattle.where_grammar.specs.Tree.{NameOf, IsOf, DistinctOf, Compared, WithinOf, BetweenOf};
+ghost use Rattle.pg_values.specs.declared.kind.Kind.{Kind};
 ghost use Rattle.where_eval.specs.Scalars.{read_under};
 ghost use Rattle.where_eval.specs.Plans.{meaning, meanings, scalar_of};
 ghost use Rattle.where_eval.specs.Truth.{values_of};
@@ -19,7 +20,7 @@ use shape_base::memory::{Duplicate, OutOfMemory};
 use shape_base::row::Columns;
 use shape_base::text::Text;
 use std::alloc::Global;
-use where_parser::expr::{Expr, Exprs, IsTest};
+use where_parser::expr::{CmpOp, Expr, Exprs, IsTest};
 
 /// The constant that a string is under a kind.
 fn constant(alloc: Global, text: &Text, kind: Kind) -> Result<Constant, OutOfMemory>
@@ -106,6 +107,106 @@ fn boxed(
     Ok(Box::new(alloc, compile(alloc, columns, kind, expr)?)?)
 }
 
+/// The plan of IS with a test; a string before IS NULL is text.
+#[cycle(compile)]
+fn tested(
+    alloc: Global,
+    columns: &Columns,
+    left: &Expr,
+    not: bool,
+    test: IsTest,
+) -> Result<Plan, OutOfMemory>
+    ensures { IfOk result (λ plan. (kind : Kind) → Compiles columns.now kind plan (IsOf (tree_of left.now) not test)) }
+{
+    let kind = match test {
+        IsTest::Null => Kind::Text,
+        _ => Kind::Boolean,
+    };
+    Ok(Plan::Is {
+        left: boxed(alloc, columns, kind, left)?,
+        not,
+        test,
+    })
+}
+
+/// The plan of IS DISTINCT FROM.
+#[cycle(compile)]
+fn distinct(
+    alloc: Global,
+    columns: &Columns,
+    left: &Expr,
+    not: bool,
+    right: &Expr,
+) -> Result<Plan, OutOfMemory>
+    ensures { IfOk result (λ plan. (kind : Kind) → Compiles columns.now kind plan (DistinctOf (tree_of left.now) not (tree_of right.now))) }
+{
+    let kind = kind_of_two(columns, left, right);
+    Ok(Plan::Distinct {
+        left: boxed(alloc, columns, kind, left)?,
+        not,
+        right: boxed(alloc, columns, kind, right)?,
+    })
+}
+
+/// The plan of a comparison.
+#[cycle(compile)]
+fn compared(
+    alloc: Global,
+    columns: &Columns,
+    op: CmpOp,
+    left: &Expr,
+    right: &Expr,
+) -> Result<Plan, OutOfMemory>
+    ensures { IfOk result (λ plan. (kind : Kind) → Compiles columns.now kind plan (Compared op (tree_of left.now) (tree_of right.now))) }
+{
+    let kind = kind_of_two(columns, left, right);
+    Ok(Plan::Cmp {
+        op,
+        left: boxed(alloc, columns, kind, left)?,
+        right: boxed(alloc, columns, kind, right)?,
+    })
+}
+
+/// The plan of IN.
+#[cycle(compile)]
+fn within(
+    alloc: Global,
+    columns: &Columns,
+    left: &Expr,
+    not: bool,
+    list: &Exprs,
+) -> Result<Plan, OutOfMemory>
+    ensures { IfOk result (λ plan. (kind : Kind) → Compiles columns.now kind plan (WithinOf (tree_of left.now) not (trees_of list.now))) }
+{
+    let kind = kind_of_list(columns, left, list);
+    Ok(Plan::Within {
+        left: boxed(alloc, columns, kind, left)?,
+        not,
+        list: compile_all(alloc, columns, kind, list)?,
+    })
+}
+
+/// The plan of BETWEEN.
+#[cycle(compile)]
+fn between(
+    alloc: Global,
+    columns: &Columns,
+    left: &Expr,
+    not: bool,
+    low: &Expr,
+    high: &Expr,
+) -> Result<Plan, OutOfMemory>
+    ensures { IfOk result (λ plan. (kind : Kind) → Compiles columns.now kind plan (BetweenOf (tree_of left.now) not (tree_of low.now) (tree_of high.now))) }
+{
+    let kind = kind_of_three(columns, left, low, high);
+    Ok(Plan::Between {
+        left: boxed(alloc, columns, kind, left)?,
+        not,
+        low: boxed(alloc, columns, kind, low)?,
+        high: boxed(alloc, columns, kind, high)?,
+    })
+}
+
 /// The plan of a part; a string is read under the kind.
 #[cycle(compile)]
 pub fn compile(
@@ -120,55 +221,16 @@ pub fn compile(
         Expr::Or(list) => Ok(Plan::Any(compile_all(alloc, columns, Kind::Boolean, list)?)),
         Expr::And(list) => Ok(Plan::All(compile_all(alloc, columns, Kind::Boolean, list)?)),
         Expr::Not(inner) => Ok(Plan::Not(boxed(alloc, columns, Kind::Boolean, inner)?)),
-        Expr::Is { left, not, test } => {
-            let kind = match test {
-                IsTest::Null => Kind::Text,
-                _ => Kind::Boolean,
-            };
-            Ok(Plan::Is {
-                left: boxed(alloc, columns, kind, left)?,
-                not: *not,
-                test: *test,
-            })
-        }
-        Expr::Distinct { left, not, right } => {
-            let kind = kind_of_two(columns, left, right);
-            Ok(Plan::Distinct {
-                left: boxed(alloc, columns, kind, left)?,
-                not: *not,
-                right: boxed(alloc, columns, kind, right)?,
-            })
-        }
-        Expr::Cmp { op, left, right } => {
-            let kind = kind_of_two(columns, left, right);
-            Ok(Plan::Cmp {
-                op: *op,
-                left: boxed(alloc, columns, kind, left)?,
-                right: boxed(alloc, columns, kind, right)?,
-            })
-        }
-        Expr::Within { left, not, list } => {
-            let kind = kind_of_list(columns, left, list);
-            Ok(Plan::Within {
-                left: boxed(alloc, columns, kind, left)?,
-                not: *not,
-                list: compile_all(alloc, columns, kind, list)?,
-            })
-        }
+        Expr::Is { left, not, test } => tested(alloc, columns, left, *not, *test),
+        Expr::Distinct { left, not, right } => distinct(alloc, columns, left, *not, right),
+        Expr::Cmp { op, left, right } => compared(alloc, columns, *op, left, right),
+        Expr::Within { left, not, list } => within(alloc, columns, left, *not, list),
         Expr::Between {
             left,
             not,
             low,
             high,
-        } => {
-            let kind = kind_of_three(columns, left, low, high);
-            Ok(Plan::Between {
-                left: boxed(alloc, columns, kind, left)?,
-                not: *not,
-                low: boxed(alloc, columns, kind, low)?,
-                high: boxed(alloc, columns, kind, high)?,
-            })
-        }
+        } => between(alloc, columns, left, *not, low, high),
         Expr::Like { left, not, pattern } => Ok(Plan::Like {
             left: boxed(alloc, columns, Kind::Text, left)?,
             not: *not,
