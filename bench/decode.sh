@@ -1,16 +1,15 @@
 #!/usr/bin/env bash
-# How fast messages of pgoutput are read: MB/s of decode_bench beside sha256sum on the same file, in the same run.
-# The file is a script of about 60 MB with messages alone, made from a seed: transactions of a few inserts, updates and deletes of a table with full
-# replica identity. Fails where reading is less than half as fast. Skips where a tool is missing. Wants 100 MB of disk.
+# How fast messages of pgoutput are read and put together into transactions: MB/s of decode_bench beside sha256sum on the same file, in the same run.
+# A script of about 60 MB, made from a seed, has transactions of a few inserts, updates and deletes of a table with full replica identity; two more have one
+# transaction each, of 100,000 and of 1,000,000 small changes. Fails where reading is less than half as fast as sha256sum; where reading and assembling is less
+# than 0.3 as fast, on the first script or on the transaction of 1,000,000 changes; or where that takes more than twelve times the time of a tenth of it.
+# Skips where a tool is missing. Wants 120 MB of disk and 400 MB of memory.
 set -u
 cd "$(dirname "$0")/.." || exit 1
-for tool in rt python3 sha256sum; do
-    command -v "$tool" >/dev/null || { echo "decode.sh: skipped, there is no $tool"; exit 0; }
-done
-folder=$(mktemp -d) || exit 1
-trap 'rm -rf "$folder"' EXIT
+. bench/timing.sh
+needs rt python3 sha256sum awk
 
-python3 - "$folder/script" <<'PYTHON'
+python3 - "$folder" <<'PYTHON'
 import random
 import struct
 import sys
@@ -38,21 +37,46 @@ def relation():
     return b'R' + struct.pack('>I', 16384) + b'public\0items\0f' + struct.pack('>H', len(columns)) + texts
 
 
+def begin(lsn, xid):
+    return b'B' + struct.pack('>QqI', lsn, xid * 1000, xid)
+
+
+def commit(lsn, xid):
+    return b'C' + struct.pack('>BQQq', 0, lsn, lsn + 48, xid * 1000)
+
+
+def change(kind, old, new):
+    oid = struct.pack('>I', 16384)
+    if kind == 'I':
+        return b'I' + oid + b'N' + new
+    if kind == 'U':
+        return b'U' + oid + b'O' + old + b'N' + new
+    return b'D' + oid + b'O' + old
+
+
 def transaction(lsn, xid, first):
-    yield b'B' + struct.pack('>QqI', lsn, xid * 1000, xid)
+    yield begin(lsn, xid)
     for number in range(first, first + rng.randrange(1, 9)):
-        oid = struct.pack('>I', 16384)
-        kind = rng.randrange(4)
-        if kind < 2:
-            yield b'I' + oid + b'N' + row(number)
-        elif kind == 2:
-            yield b'U' + oid + b'O' + row(number) + b'N' + row(number)
-        else:
-            yield b'D' + oid + b'O' + row(number)
-    yield b'C' + struct.pack('>BQQq', 0, lsn, lsn + 48, xid * 1000)
+        yield change('IIUD'[rng.randrange(4)], row(number), row(number))
+    yield commit(lsn, xid)
 
 
-with open(sys.argv[1], 'wb') as out:
+# a row of an integer of seven digits and one of three, and two nulls
+def small_row(number):
+    return struct.pack('>H', 4) + field(b'%d' % (1_000_000 + number)) + field(b'%d' % (100 + number % 900)) + b'nn'
+
+
+def write_one(path, changes):
+    with open(path, 'wb') as out:
+        out.write(record(begin(100, 1)) + record(relation()))
+        for number in range(changes):
+            out.write(record(change('IUD'[number % 3], small_row(number), small_row(number + 1))))
+        out.write(record(commit(100, 1)) + b'E\0\0\0\0')
+    with open(path + '.wanted', 'w') as out:
+        out.write('messages %d\ntransactions 1, changes %d\n' % (changes + 3, changes))
+
+
+with open(sys.argv[1] + '/script', 'wb') as out:
     size = out.write(record(relation()))
     xid = 0
     while size < MB:
@@ -60,29 +84,34 @@ with open(sys.argv[1], 'wb') as out:
         for message in transaction(xid * 100, xid, xid * 10):
             size += out.write(record(message))
     out.write(b'E\0\0\0\0')
+write_one(sys.argv[1] + '/small', 100_000)
+write_one(sys.argv[1] + '/large', 1_000_000)
 PYTHON
 
 [ -x crates/decode_bench/out/decode_bench ] || (cd crates/decode_bench && rt run -- again < stdin > /dev/null 2>&1) || { echo "decode.sh: decode_bench does not run"; exit 1; }
 program=crates/decode_bench/out/decode_bench
 
-# seconds WORDS..: the best of five runs, with the script as input
-seconds() {
-    best=
-    for _ in 1 2 3 4 5; do
-        start=$(date +%s.%N)
-        "$@" < "$folder/script" > "$folder/answer" || { echo "decode.sh: $1 fails" >&2; exit 1; }
-        end=$(date +%s.%N)
-        took=$(awk -v a="$start" -v b="$end" 'BEGIN { print b - a }')
-        best=$(awk -v a="$took" -v b="${best:-$took}" 'BEGIN { print (a < b) ? a : b }')
-    done
-    echo "$best"
+# assembling RUNS FILE: the least seconds of the program that reads and assembles the file's messages
+assembling() {
+    seconds "$1" "$folder/$2" "$program" assemble || return 1
+    [ ! -e "$folder/$2.wanted" ] || cmp -s "$answer" "$folder/$2.wanted" || { echo "decode.sh: of $2 it answers $(cat "$answer")" >&2; return 1; }
 }
 
-hashing=$(seconds sha256sum) || exit 1
-decoding=$(seconds "$program") || exit 1
-cat "$folder/answer"
-size=$(wc -c < "$folder/script")
-awk -v bytes="$size" -v decode="$decoding" -v hash="$hashing" 'BEGIN {
+status=0
+hashing=$(seconds 5 "$folder/script" sha256sum) || exit 1
+decoding=$(seconds 5 "$folder/script" "$program") || exit 1
+whole=$(assembling 5 script) || exit 1
+cat "$answer"
+awk -v bytes="$(wc -c < "$folder/script")" -v decode="$decoding" -v whole="$whole" -v hash="$hashing" 'BEGIN {
     printf "decode %.0f MB/s, sha256sum %.0f MB/s, ratio %.2f\n", bytes / decode / 1e6, bytes / hash / 1e6, hash / decode
-    exit hash / decode < 0.5
-}'
+    printf "decode and assemble %.0f MB/s, ratio %.2f\n", bytes / whole / 1e6, hash / whole
+    exit hash / decode < 0.5 || hash / whole < 0.3
+}' || status=1
+hashing=$(seconds 3 "$folder/large" sha256sum) || exit 1
+small=$(assembling 3 small) || exit 1
+large=$(assembling 3 large) || exit 1
+awk -v bytes="$(wc -c < "$folder/large")" -v small="$small" -v large="$large" -v hash="$hashing" 'BEGIN {
+    printf "one transaction of 1,000,000 changes: decode and assemble %.0f MB/s, sha256sum %.0f MB/s, ratio %.2f; %.1f times the time of 100,000 changes\n", bytes / large / 1e6, bytes / hash / 1e6, hash / large, large / small
+    exit hash / large < 0.3 || large / small > 12
+}' || status=1
+exit $status

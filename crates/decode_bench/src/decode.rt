@@ -2,9 +2,19 @@
 ghost use Rattle.std.specs.Prelude.{◌≡◌, IsTrue};
 ghost use Rattle.pgout.specs.Grammar.{Fits, spelled};
 
+use crate::assembly::Assembly;
 use byte_format::{u8_at, u32_at};
 use pgout::{Message, read_message, write_message};
 use std::alloc::Global;
+
+/// What is done with each message that was read.
+#[derive(Drop)]
+pub struct Work {
+    /// It is written again, and its bytes are compared.
+    pub again: bool,
+    /// It is fed to an assembler.
+    pub assembly: Option<Assembly>,
+}
 
 /// What a script holds.
 pub enum Decoded {
@@ -14,12 +24,15 @@ pub enum Decoded {
     Wrong(u64),
 }
 
-/// Whether these bytes are a message, and with `again` are written again alike.
-fn is_message(alloc: Global, bytes: &[u8], again: bool) -> bool
+/// Whether these bytes are a message, which the work is done with.
+fn is_message(alloc: Global, bytes: &[u8], work: &mut Work) -> bool
     ensures { IsTrue result → (m : Message) × Fits m × (bytes.now ≡ spelled m) }
 {
     match read_message(alloc, bytes) {
-        Ok(message) => !again || is_written(alloc, &message, bytes),
+        Ok(message) => {
+            (!work.again || is_written(alloc, &message, bytes))
+                && is_taken(&mut work.assembly, message)
+        }
         Err(_) => false,
     }
 }
@@ -32,6 +45,19 @@ fn is_written(alloc: Global, message: &Message, bytes: &[u8]) -> bool
     match write_message(alloc, message) {
         Ok(written) => written.as_slice() == bytes,
         Err(_) => false,
+    }
+}
+
+/// Whether the message is taken by the assembler, where there is one.
+fn is_taken(assembly: &mut Option<Assembly>, message: Message) -> bool
+    requires { Fits message }
+{
+    match assembly {
+        Some(assembly) => assembly.take(message),
+        None => {
+            drop(message);
+            true
+        }
     }
 }
 
@@ -51,8 +77,8 @@ fn record_at(bytes: &[u8]) -> Option<(u8, &[u8], &[u8])> {
     Some((kind, payload, rest))
 }
 
-/// Reads the messages of a script, up to its record `E` or its end.
-pub fn decode(alloc: Global, script: &[u8], again: bool) -> Decoded {
+/// Reads the messages of a script, up to its record `E` or its end, and does the work with each.
+pub fn decode(alloc: Global, script: &[u8], work: &mut Work) -> Decoded {
     let mut rest = script;
     let mut messages = 0;
     for record in 0..u64::MAX {
@@ -66,7 +92,7 @@ pub fn decode(alloc: Global, script: &[u8], again: bool) -> Decoded {
             break;
         }
         if kind == b'M' {
-            if !is_message(alloc, payload, again) {
+            if !is_message(alloc, payload, work) {
                 return Decoded::Wrong(record);
             }
             messages += 1;
