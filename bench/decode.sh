@@ -3,7 +3,7 @@
 # A script of about 60 MB, made from a seed, has transactions of a few inserts, updates and deletes of a table with full replica identity; two more have one
 # transaction each, of 100,000 and of 1,000,000 small changes. Fails where reading is less than half as fast as sha256sum; where reading and assembling is less
 # than 0.3 as fast, on the first script or on the transaction of 1,000,000 changes; or where that takes more than twelve times the time of a tenth of it.
-# Skips where a tool is missing. Wants 200 MB of disk and 600 MB of memory.
+# Skips where a tool is missing. Wants 120 MB of disk and 400 MB of memory.
 set -u
 cd "$(dirname "$0")/.." || exit 1
 . bench/timing.sh
