@@ -3,3 +3,5 @@ pub mod KeyLaws
 pub mod Places
 pub mod Entries
 pub mod LongTest
+pub mod Utf8Wants
+pub mod ReadLaws

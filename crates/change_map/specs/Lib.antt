@@ -1,3 +1,4 @@
 pub mod Keys
+pub mod Reading
 pub mod Emitting
 pub mod Long

@@ -6,11 +6,14 @@
 mod cells;
 mod emitting;
 mod key;
+mod key_reader;
 #[cfg(test)]
 mod long;
 mod order;
 #[cfg(test)]
 mod tests;
+mod wanted;
 
 pub use emitting::{EmitError, Emitted, Emitter};
 pub use key::{KeyError, key_text};
+pub use key_reader::{KeyTextError, read_key};
