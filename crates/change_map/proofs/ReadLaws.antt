@@ -8,11 +8,14 @@ use Rattle.std.proofs.lemmas.Str.{IsUtf8-nil}
 use Rattle.std.proofs.lemmas.Grind.{flat_map-append}
 use Rattle.shape_base.specs.Shape.{doubled, quoted}
 use Rattle.shape_base.proofs.KeyText.{IsApart, quoted_split}
-use Rattle.change_map.specs.Keys.{Parts, AreParts, Spells, IsKeyText, IsReadAs, BeginsKey, parts_text, in_one}
+use Rattle.std.proofs.Math.Seq.{take-suc}
+use Rattle.std.proofs.Common.{get_or, add-one, take_all}
+use Rattle.change_map.specs.Keys.{Parts, AreParts, Spells, IsKeyText, IsReadAs, BeginsKey, IsLongestFront, parts_text, in_one}
 use Rattle.change_map.specs.Reading.{Fits, GoesOn, IsWanted, Wants, joined, closed, separator, opened, spelled, IsPart}
 use Rattle.change_map.specs.declared.wanted.Wanted.{Wanted}
 use Rattle.change_map.specs.declared.key_reader.Spot.{Spot}
 use Rattle.change_map.specs.declared.key_reader.Spot.TheVariants.{Before, Within, Behind}
+use Rattle.std.proofs.lemmas.List.{take-append-drop, take-take}
 
 abbrev value_text : List ℕ → List ℕ
 value_text v = 47 ∷ quoted v
@@ -97,7 +100,7 @@ next_value ns name parts (d ∷ ds) (v ∷ vs) rest h e =
 text_cut : (p : Parts) → parts_text p ≡ quoted p.ns ++ 46 ∷ (quoted p.name ++ flat_map value_text p.values)
 text_cut p = append_assoc (quoted p.ns) (46 ∷ quoted p.name) (flat_map value_text p.values)
 
-pub next_part : (parts : List (List ℕ)) (rest : List ℕ) (p : Parts) → AreParts p → opened parts ++ rest ≡ parts_text p → NextPart parts rest
+next_part : (parts : List (List ℕ)) (rest : List ℕ) (p : Parts) → AreParts p → opened parts ++ rest ≡ parts_text p → NextPart parts rest
 next_part [] rest p h e = record { p = p.ns; others = 46 ∷ (quoted p.name ++ flat_map value_text p.values); utf8 = h.ns; split = e ∙ text_cut p; after = refl }
 next_part (ns ∷ []) rest p h e =
     let whole : quoted ns ++ 46 ∷ rest ≡ quoted p.ns ++ 46 ∷ (quoted p.name ++ flat_map value_text p.values) = sym (append_assoc (quoted ns) (46 ∷ []) rest) ∙ e ∙ text_cut p in
@@ -151,7 +154,7 @@ record Inside (parts : List (List ℕ)) (current rest : List ℕ) : Type 0 where
   pub split : rest ≡ flat_map doubled more ++ 34 ∷ others
   pub after : IsAfter parts others
 
-pub inside : (parts : List (List ℕ)) (current rest : List ℕ) (p : Parts) → AreParts p → opened parts ++ 34 ∷ (flat_map doubled current ++ rest) ≡ parts_text p → Inside parts current rest
+inside : (parts : List (List ℕ)) (current rest : List ℕ) (p : Parts) → AreParts p → opened parts ++ 34 ∷ (flat_map doubled current ++ rest) ≡ parts_text p → Inside parts current rest
 inside parts current rest p h e =
     let n = next_part parts (34 ∷ (flat_map doubled current ++ rest)) p h e in
     let cut : 34 ∷ (flat_map doubled current ++ rest) ≡ 34 ∷ (flat_map doubled n.p ++ 34 ∷ n.others) = n.split ∙ append_assoc (34 ∷ flat_map doubled n.p) (34 ∷ []) n.others in
@@ -207,3 +210,194 @@ no_behind parts current b other apart (rest, (p, s)) = let i = inside parts curr
     of : (more others : List ℕ) → IsAfter parts others → 34 ∷ b ∷ rest ≡ flat_map doubled more ++ 34 ∷ others → ⊥
     of [] others h e = let tail : b ∷ rest ≡ others = cc in then_is others tail h
     of (c ∷ more) others h e = other (second_is b c rest more others (c == 34) refl e)
+
+-- ---- bytes that are no key text
+
+-- a text that ends before a part, or within one
+pub not_before : (parts : List (List ℕ)) → ¬ (IsKeyText (opened parts))
+not_before parts (p, k) = let n = next_part parts [] p k.parts (append-nil (opened parts) ∙ k.is) in of n.p n.others n.split
+  where
+    of : (part others : List ℕ) → [] ≡ quoted part ++ others → ⊥
+    of part others e = cc
+
+pub not_within : (parts : List (List ℕ)) (current : List ℕ) → ¬ (IsKeyText (opened parts ++ 34 ∷ flat_map doubled current))
+not_within parts current (p, k) = let i = inside parts current [] p k.parts (ap (λ xs. opened parts ++ 34 ∷ xs) (append-nil (flat_map doubled current)) ∙ k.is) in omega (arith, ap length i.split, length-append (flat_map doubled i.more) (34 ∷ i.others))
+
+doubled_some : (c : ℕ) (rest : List ℕ) (t : Bool) → 0 < length ((if t then 34 ∷ 34 ∷ [] else c ∷ []) ++ rest)
+doubled_some c rest true = omega arith
+doubled_some c rest false = omega arith
+
+pub not_behind : (parts : List (List ℕ)) (current : List ℕ) → length parts < 2 → ¬ (IsKeyText (opened parts ++ quoted current))
+not_behind parts current few (p, k) = let i = inside parts current (34 ∷ []) p k.parts k.is in of i.more i.others i.after i.split
+  where
+    then_none : (others : List ℕ) → [] ≡ others → IsAfter parts others → ⊥
+    then_none [] e h = absurd (omega (arith, few, h))
+    then_none (x ∷ xs) e h = cc
+
+    of : (more others : List ℕ) → IsAfter parts others → 34 ∷ [] ≡ flat_map doubled more ++ 34 ∷ others → ⊥
+    of [] others h e = let tail : [] ≡ others = cc in then_none others tail h
+    of (c ∷ more) others h e = absurd (omega (arith, ap length e, length-append (flat_map doubled (c ∷ more)) (34 ∷ others), doubled_some c (flat_map doubled more) (c == 34)))
+
+-- ---- bytes that are a key text
+
+last_some : (values : List (List ℕ)) (p : List ℕ) → 0 < length (values ++ p ∷ [])
+last_some values p = omega (arith, length-append values (p ∷ []))
+
+pub is_read : (parts : List (List ℕ)) (current : List ℕ) → AreTexts parts → IsUtf8 current → 1 < length parts → IsReadAs (opened parts ++ quoted current) (parts ++ current ∷ [])
+is_read [] current h u long = absurd (omega (arith, long))
+is_read (ns ∷ []) current h u long = absurd (omega (arith, long))
+is_read (ns ∷ name ∷ values) current h u long = (
+  record { ns = ns; name = name; values = values ++ current ∷ [] },
+  refl,
+  record {
+    parts = record { ns = h.0; name = h.1.0; values = are_more values current h.1.1 u; some = last_some values current };
+    is = joined_more (ns ∷ name ∷ values) current;
+  },
+)
+
+-- ---- what has been read begins a key text
+
+pub begins_front : (front more : List ℕ) → BeginsKey (front ++ more) → BeginsKey front
+begins_front front more (rest, (p, k)) = (more ++ rest, (p, record { parts = k.parts; is = sym (append_assoc front more rest) ∙ k.is }))
+
+no_text : IsUtf8 []
+no_text = IsUtf8-nil
+
+begins_joined : (parts : List (List ℕ)) → AreTexts parts → BeginsKey (joined parts)
+begins_joined [] h = let p : Parts = record { ns = []; name = []; values = [] ∷ [] } in (parts_text p, (p, record { parts = record { ns = no_text; name = no_text; values = (no_text, tt); some = omega arith }; is = refl }))
+begins_joined (ns ∷ []) h =
+    let p : Parts = record { ns = ns; name = []; values = [] ∷ [] } in
+    let last = flat_map value_text ([] ∷ []) in
+    (46 ∷ (quoted [] ++ last), (p, record { parts = record { ns = h.0; name = no_text; values = (no_text, tt); some = omega arith }; is = sym (text_cut p) }))
+begins_joined (ns ∷ name ∷ []) h =
+    let p : Parts = record { ns = ns; name = name; values = [] ∷ [] } in
+    let last = flat_map value_text ([] ∷ []) in
+    (last, (p, record { parts = record { ns = h.0; name = h.1.0; values = (no_text, tt); some = omega arith }; is = ap (λ xs. xs ++ last) (append-nil (quoted ns ++ 46 ∷ quoted name)) }))
+begins_joined (ns ∷ name ∷ v ∷ values) h =
+    let p : Parts = record { ns = ns; name = name; values = v ∷ values } in
+    ([], (p, record { parts = record { ns = h.0; name = h.1.0; values = h.1.1; some = omega arith }; is = append-nil (joined (ns ∷ name ∷ v ∷ values)) }))
+
+pub once : (b : ℕ) → b ≢ 34 → doubled b ≡ b ∷ []
+once b other = of (b == 34) refl
+  where
+    of : (t : Bool) → (b == 34) ≡ t → (if t then 34 ∷ 34 ∷ [] else b ∷ []) ≡ b ∷ []
+    of true e = absurd (other ((Decides-eqb b 34).0 e))
+    of false e = refl
+
+-- some bytes fit, and have no quote
+record Filled (left low high : ℕ) : Type 0 where
+  pub lacked : List ℕ
+  pub fits : Fits left low high lacked
+  pub once : flat_map doubled lacked ≡ lacked
+
+filled : (left low high : ℕ) → 128 ≤ low → low ≤ high → Filled left low high
+filled zero low high a h = record { lacked = []; fits = tt; once = refl }
+filled (suc n) low high a h =
+    let rest = filled n 128 191 (omega arith) (omega arith) in
+    let first : doubled low ≡ low ∷ [] = once low (λ e. absurd (omega (arith, e, a))) in
+    record { lacked = low ∷ rest.lacked; fits = (omega arith, h, rest.fits); once = ap (λ xs. xs ++ flat_map doubled rest.lacked) first ∙ ap (λ xs. low ∷ xs) rest.once }
+
+begins_part : (parts : List (List ℕ)) (p : List ℕ) → AreTexts parts → IsUtf8 p → BeginsKey (opened parts ++ quoted p)
+begins_part parts p h u = subst BeginsKey (sym (joined_more parts p)) (begins_joined (parts ++ p ∷ []) (are_more parts p h u))
+
+filled_text : (parts : List (List ℕ)) (current lacked : List ℕ) → flat_map doubled lacked ≡ lacked → (opened parts ++ 34 ∷ flat_map doubled current) ++ (lacked ++ 34 ∷ []) ≡ opened parts ++ quoted (current ++ lacked)
+filled_text parts current lacked e =
+    append_assoc (opened parts) (34 ∷ flat_map doubled current) (lacked ++ 34 ∷ [])
+    ∙ ap (λ xs. opened parts ++ xs) (sym (append_assoc (34 ∷ flat_map doubled current) lacked (34 ∷ []))
+    ∙ ap (λ xs. 34 ∷ xs ++ 34 ∷ []) (ap (λ xs. flat_map doubled current ++ xs) (sym e) ∙ sym (flat_map-append doubled current lacked)))
+
+pub begins : (spot : Spot) (parts : List (List ℕ)) (current : List ℕ) → AreTexts parts → IsPart spot current → BeginsKey (spelled spot parts current)
+begins Before parts current h k = begins_front (opened parts) (quoted []) (begins_part parts [] h no_text)
+begins (Within w) parts current h k =
+    let f = filled w.left w.low w.high k.no_ascii k.range in
+    begins_front (opened parts ++ 34 ∷ flat_map doubled current) (f.lacked ++ 34 ∷ []) (subst BeginsKey (sym (filled_text parts current f.lacked f.once)) (begins_part parts (current ++ f.lacked) h (k.whole f.lacked f.fits)))
+begins Behind parts current h k = begins_part parts current h k
+
+-- ---- what each byte adds
+
+pub first_quote : (parts : List (List ℕ)) (current : List ℕ) → current ≡ [] → opened parts ++ 34 ∷ flat_map doubled current ≡ opened parts ++ 34 ∷ []
+first_quote parts current is = ap (λ xs. opened parts ++ 34 ∷ flat_map doubled xs) is
+
+pub one_more : (parts : List (List ℕ)) (current : List ℕ) (b : ℕ) → b ≢ 34 → opened parts ++ 34 ∷ flat_map doubled (current ++ b ∷ []) ≡ (opened parts ++ 34 ∷ flat_map doubled current) ++ b ∷ []
+one_more parts current b other =
+    let last : flat_map doubled (b ∷ []) ≡ b ∷ [] = append-nil (doubled b) ∙ once b other in
+    ap (λ xs. opened parts ++ 34 ∷ xs) (flat_map-append doubled current (b ∷ []) ∙ ap (λ xs. flat_map doubled current ++ xs) last) ∙ sym (append_assoc (opened parts) (34 ∷ flat_map doubled current) (b ∷ []))
+
+pub last_quote : (parts : List (List ℕ)) (current : List ℕ) → opened parts ++ quoted current ≡ (opened parts ++ 34 ∷ flat_map doubled current) ++ 34 ∷ []
+last_quote parts current = sym (append_assoc (opened parts) (34 ∷ flat_map doubled current) (34 ∷ []))
+
+pub two_quotes : (parts : List (List ℕ)) (current : List ℕ) → opened parts ++ 34 ∷ flat_map doubled (current ++ 34 ∷ []) ≡ (opened parts ++ quoted current) ++ 34 ∷ []
+two_quotes parts current =
+    ap (λ xs. opened parts ++ 34 ∷ xs) (flat_map-append doubled current (34 ∷ []))
+    ∙ ap (λ xs. opened parts ++ xs) (sym (append_assoc (34 ∷ flat_map doubled current) (34 ∷ []) (34 ∷ []))) ∙ sym (append_assoc (opened parts) (quoted current) (34 ∷ []))
+
+-- ---- the parts of a key text are told by it
+
+values_told : (vs ws : List (List ℕ)) → flat_map value_text vs ≡ flat_map value_text ws → vs ≡ ws
+values_told [] [] e = refl
+values_told [] (w ∷ ws) e = cc
+values_told (v ∷ vs) [] e = cc
+values_told (v ∷ vs) (w ∷ ws) e =
+    let inner : quoted v ++ flat_map value_text vs ≡ quoted w ++ flat_map value_text ws = cc in
+    let two = quoted_split v w (flat_map value_text vs) (flat_map value_text ws) (apart_values vs) (apart_values ws) inner in
+    let head : v ≡ w = two.0 in let tail : vs ≡ ws = values_told vs ws two.1 in cc
+
+pub parts_told : (p q : Parts) → parts_text p ≡ parts_text q → in_one p ≡ in_one q
+parts_told p q e =
+    let mine = quoted p.name ++ flat_map value_text p.values in
+    let other = quoted q.name ++ flat_map value_text q.values in
+    let one = quoted_split p.ns q.ns (46 ∷ mine) (46 ∷ other) (after_dot mine) (after_dot other) (sym (text_cut p) ∙ e ∙ text_cut q) in
+    let rest : 46 ∷ mine ≡ 46 ∷ other = one.1 in
+    let tails : mine ≡ other = cc in
+    let two = quoted_split p.name q.name (flat_map value_text p.values) (flat_map value_text q.values) (apart_values p.values) (apart_values q.values) tails in
+    let a : p.ns ≡ q.ns = one.0 in let b : p.name ≡ q.name = two.0 in let c : p.values ≡ q.values = values_told p.values q.values two.1 in cc
+
+pub read_back : (text : List ℕ) (texts : List (List ℕ)) → IsReadAs text texts → (p : Parts) → Spells p text → texts ≡ in_one p
+read_back text texts (q, is, s) p t = is ∙ parts_told q p (sym s.is ∙ t.is)
+
+-- ---- at a spot
+
+pub part_at : (spot other : Spot) (current : List ℕ) → spot ≡ other → IsPart spot current → IsPart other current
+part_at spot other current is h = subst (λ (s : Spot). IsPart s current) is h
+
+pub text_at : (spot other : Spot) (parts : List (List ℕ)) (current text : List ℕ) (b : ℕ) → spot ≡ other → text ≡ spelled other parts current ++ b ∷ [] → text ≡ spelled spot parts current ++ b ∷ []
+text_at spot other parts current text b is h = subst (λ (s : Spot). text ≡ spelled s parts current ++ b ∷ []) (sym is) h
+
+pub none_at : (spot other : Spot) (parts : List (List ℕ)) (current : List ℕ) (b : ℕ) → spot ≡ other → ¬ (BeginsKey (spelled other parts current ++ b ∷ [])) → ¬ (BeginsKey (spelled spot parts current ++ b ∷ []))
+none_at spot other parts current b is h = subst (λ (s : Spot). ¬ (BeginsKey (spelled s parts current ++ b ∷ []))) (sym is) h
+
+-- ---- the place
+
+-- the byte in a place is one with which no key text goes on
+pub refused_at : (text : List ℕ) (i b : ℕ) → i < length text → b ≡ get_or text i 0 → BeginsKey (take i text) → ¬ (BeginsKey (take i text ++ b ∷ [])) → ¬ (IsKeyText text) × IsLongestFront text i
+refused_at text i b lt is begun none = (whole, record { within = omega (arith, lt); begins = begun; longest = longest })
+  where
+    front : take (suc i) text ≡ take i text ++ b ∷ []
+    front = take-suc text i 0 lt ∙ ap (λ x. take i text ++ x ∷ []) (sym is)
+
+    no_front : ¬ (BeginsKey (take (suc i) text))
+    no_front h = none (subst BeginsKey front h)
+
+    longest : (m : ℕ) → i < m → m ≤ length text → ¬ (BeginsKey (take m text))
+    longest m more le h =
+        let cut : take (suc i) text ++ drop (suc i) (take m text) ≡ take m text = ap (λ xs. xs ++ drop (suc i) (take m text)) (sym (take-take (suc i) m text (omega (arith, more)))) ∙ take-append-drop (suc i) (take m text) in
+        no_front (begins_front (take (suc i) text) (drop (suc i) (take m text)) (subst BeginsKey (sym cut) h))
+
+    whole : ¬ (IsKeyText text)
+    whole h = no_front (begins_front (take (suc i) text) (drop (suc i) text) (subst BeginsKey (sym (take-append-drop (suc i) text)) ([], subst IsKeyText (sym (append-nil text)) h)))
+
+-- a longer text would be one
+pub ended_at : (text : List ℕ) → BeginsKey text → ¬ (IsKeyText text) → ¬ (IsKeyText text) × IsLongestFront text (length text)
+ended_at text begun none = (
+  none,
+  record {
+    within = omega arith;
+    begins = subst BeginsKey (sym (take_all (length text) text (omega arith))) begun;
+    longest = λ m more le. absurd (omega (arith, more, le));
+  },
+)
+
+pub not_key : (spot : Spot) (parts : List (List ℕ)) (current : List ℕ) → spot ≢ Behind → ¬ (IsKeyText (spelled spot parts current))
+not_key Before parts current h = not_before parts
+not_key (Within w) parts current h = not_within parts current
+not_key Behind parts current h = absurd (h refl)

@@ -61,7 +61,6 @@ fn separator(done: &[Text]) -> u8
 }
 
 impl KeyReader {
-    #[tactic(auto, using(crate::proofs::ReadLaws::no_behind))]
     fn new(alloc: Global) -> KeyReader
         ensures reading { IsReading result }
         ensures none { read_so_far result ≡ [] }
