@@ -1,5 +1,5 @@
 -- Key texts that are read byte by byte.
-use Rattle.std.proofs.Common.{◌≡◌, ◌≢◌, ℕ, zero, suc, ◌+◌, ◌-◌, ◌<◌, ◌≤◌, Bool, true, false, ◌==◌, List, [], ◌∷◌, ◌++◌, length, take, drop, refl, sym, ◌∙◌, ap, subst, arith, append_assoc, append-nil, length-append, inl, inr, ◌⊎◌}
+use Rattle.std.proofs.Common.{◌≡◌, ◌≢◌, ℕ, zero, suc, ◌<◌, ◌≤◌, Bool, true, false, ◌==◌, List, [], ◌∷◌, ◌++◌, length, take, drop, refl, sym, ◌∙◌, ap, subst, arith, append_assoc, append-nil, length-append}
 use Rattle.std.specs.Bool.{if◌then◌else◌}
 use Rattle.std.specs.List.{flat_map, AllByRecursion}
 use Rattle.std.specs.Str.{IsUtf8}
@@ -9,9 +9,9 @@ use Rattle.std.proofs.lemmas.Grind.{flat_map-append}
 use Rattle.shape_base.specs.Shape.{doubled, quoted}
 use Rattle.shape_base.proofs.KeyText.{IsApart, quoted_split}
 use Rattle.std.proofs.Math.Seq.{take-suc}
-use Rattle.std.proofs.Common.{get_or, add-one, take_all}
+use Rattle.std.proofs.Common.{get_or, take_all}
 use Rattle.change_map.specs.Keys.{Parts, AreParts, Spells, IsKeyText, IsReadAs, BeginsKey, IsLongestFront, parts_text, in_one}
-use Rattle.change_map.specs.Reading.{Fits, GoesOn, IsWanted, Wants, joined, closed, separator, opened, spelled, IsPart}
+use Rattle.change_map.specs.Reading.{Fits, Wants, joined, closed, separator, opened, spelled, IsPart}
 use Rattle.change_map.specs.declared.wanted.Wanted.{Wanted}
 use Rattle.change_map.specs.declared.key_reader.Spot.{Spot}
 use Rattle.change_map.specs.declared.key_reader.Spot.TheVariants.{Before, Within, Behind}

@@ -122,7 +122,7 @@ impl KeyReader {
         ensures { IfOk result (Takes self.old self.new byte) }
     {
         if byte == b'"' {
-            self.current.push(byte)?;
+            self.current.push(b'"')?;
             self.spot = Spot::Within { wanted: nothing() };
             return Ok(true);
         }

@@ -1,4 +1,4 @@
-use Rattle.std.proofs.Common.{ℕ, List, ◌∷◌, ◌≡◌, ◌++◌, ◌<◌, [], Bool, false, length, take, get_or, refl, sym, subst, arith, take_all, ◌∙◌}
+use Rattle.std.proofs.Common.{ℕ, List, ◌∷◌, ◌≡◌, ◌++◌, [], Bool, false, length, take, get_or, refl, subst, arith, take_all, ◌∙◌}
 use Rattle.std.specs.Prelude.{Option}
 use Rattle.std.specs.Option.{MatchOption}
 use Rattle.change_map.specs.Keys.{IsKeyText, IsReadAs, BeginsKey, IsLongestFront}

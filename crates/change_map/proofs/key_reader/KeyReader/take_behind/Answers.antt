@@ -14,7 +14,7 @@ pub returns-then-byte-eq34 : goal.returns-then-byte-eq34
 returns-then-byte-eq34 c =
     let r = c.args.self.now in
     let u : IsUtf8 r.current.items = part_at r.spot Behind r.current.items c.requires.behind c.requires.reading.part in
-    let more : c.push.new.self.items ≡ r.current.items ++ 34 ∷ [] = c.in_ok-push.ensures.items ∙ ap (λ b. r.current.items ++ b ∷ []) c.if-byte-eq34.true in (
+    let more : c.push.new.self.items ≡ r.current.items ++ 34 ∷ [] = c.in_ok-push.ensures.items in (
       record { done = c.requires.reading.done; part = c.nothing.ensures c.push.new.self.items (subst IsUtf8 (sym more) (IsUtf8-append r.current.items (34 ∷ []) u (one_ascii 34 (omega arith)))) },
       text_at r.spot Behind r.done.items r.current.items _ c.args.byte c.requires.behind
           (ap (λ xs. opened r.done.items ++ 34 ∷ flat_map doubled xs) more ∙ two_quotes r.done.items r.current.items ∙ ap (λ b. (opened r.done.items ++ (34 ∷ flat_map doubled r.current.items ++ 34 ∷ [])) ++ b ∷ []) (sym c.if-byte-eq34.true)),
