@@ -7,11 +7,7 @@ mod cells;
 mod emitting;
 mod key;
 mod key_reader;
-#[cfg(test)]
-mod long;
 mod order;
-#[cfg(test)]
-mod tests;
 mod wanted;
 
 pub use emitting::{EmitError, Emitted, Emitter};
