@@ -134,7 +134,7 @@ same_keys s old new false h k e = false_from _ (λ t. let same : key_values s.ke
 
 -- ---- texts
 
-one_ascii : (b : ℕ) → b < 128 → IsUtf8 (b ∷ [])
+pub one_ascii : (b : ℕ) → b < 128 → IsUtf8 (b ∷ [])
 one_ascii b h = IsUtf8-from_ascii (b ∷ []) (IsAscii-cons b [] h IsAscii-nil)
 
 pub with_value : (out words new : List ℕ) → new ≡ out ++ 47 ∷ quoted words → IsUtf8 words → IsUtf8 out → IsUtf8 new

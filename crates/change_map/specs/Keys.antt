@@ -1,5 +1,5 @@
 -- Key texts, their parts, and key values that are null.
-use Rattle.std.specs.Prelude.{◌≡◌, ℕ, ◌<◌, Bool, false, ◌&&◌, ◌==◌, List, ◌∷◌, ◌++◌, length, map, slice_index_or}
+use Rattle.std.specs.Prelude.{◌≡◌, ℕ, ◌<◌, ◌≤◌, Bool, false, ◌&&◌, ◌==◌, List, ◌∷◌, ◌++◌, length, map, take, slice_index_or}
 use Rattle.std.specs.List.{list_any, flat_map, AllByRecursion}
 use Rattle.std.specs.Str.{IsUtf8}
 use Rattle.shape_base.specs.declared.row.Value.TheVariants.{Null}
@@ -39,3 +39,26 @@ in_one p = p.ns ∷ p.name ∷ p.values
 abbrev pub TellsKey : Knows → Values → List ℕ → Type 0
 TellsKey s row text = (t : Knows) (other : Values) → lacks_key t.key other ≡ false → text ≡ key_text t other
     → (s.served.ns ≡ t.served.ns) × (s.served.name ≡ t.served.name) × (key_values s.key row ≡ key_values t.key other)
+
+-- These parts have this text.
+pub record Spells (p : Parts) (text : List ℕ) : Type 0 where
+  pub parts : AreParts p
+  pub is : text ≡ parts_text p
+
+-- These bytes are a key text.
+abbrev pub IsKeyText : List ℕ → Type 0
+IsKeyText text = (p : Parts) × Spells p text
+
+-- These are its parts, in one list.
+abbrev pub IsReadAs : List ℕ → List (List ℕ) → Type 0
+IsReadAs text parts = (p : Parts) × (parts ≡ in_one p) × Spells p text
+
+-- A key text begins with these bytes.
+abbrev pub BeginsKey : List ℕ → Type 0
+BeginsKey bytes = (more : List ℕ) × IsKeyText (bytes ++ more)
+
+-- the length of the longest prefix of these bytes with which a key text begins
+pub record IsLongestFront (bytes : List ℕ) (n : ℕ) : Type 0 where
+  pub within : n ≤ length bytes
+  pub begins : BeginsKey (take n bytes)
+  pub longest : (m : ℕ) → n < m → m ≤ length bytes → ¬ (BeginsKey (take m bytes))

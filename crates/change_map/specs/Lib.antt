@@ -1,3 +1,3 @@
 pub mod Keys
+pub mod Reading
 pub mod Emitting
-pub mod Long

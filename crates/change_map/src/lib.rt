@@ -6,11 +6,10 @@
 mod cells;
 mod emitting;
 mod key;
-#[cfg(test)]
-mod long;
+mod key_reader;
 mod order;
-#[cfg(test)]
-mod tests;
+mod wanted;
 
 pub use emitting::{EmitError, Emitted, Emitter};
 pub use key::{KeyError, key_text};
+pub use key_reader::{KeyTextError, read_key};

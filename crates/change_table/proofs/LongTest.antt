@@ -5,7 +5,7 @@ use Rattle.std.specs.List.{IsDistinct}
 use Rattle.shape_base.specs.declared.row.TableDef.{TableDef}
 use Rattle.shape_base.specs.declared.served.Served.{Served}
 use Rattle.shape_base.specs.Shape.{IsTest, plain_knows}
-use Rattle.change_map.specs.Long.{item_columns, tag_columns}
+use Rattle.change_table.specs.Long.{item_columns, tag_columns}
 
 -- three columns, the first one the key; and two, whose names are in another order
 pub items_lawful : (served : Served) (d : TableDef) (key selected : List ℕ) → served.key ≡ codes "id" ∷ [] → d.columns ≡ item_columns → key ≡ 0 ∷ [] → selected ≡ 0 ∷ 1 ∷ 2 ∷ [] → IsTest (plain_knows served d key selected)

@@ -1,8 +1,8 @@
-//! A row test for the tests: it selects the rows whose second column has two bytes or more.
+//! A row test: it selects the rows whose second column has two bytes or more.
 ghost use Rattle.std.proofs.Props.{props};
 ghost use Rattle.std.specs.Prelude.{◌≡◌, ◌<◌, length};
 ghost use Rattle.shape_base.specs.Shape.{IsTest, plain_knows};
-ghost use Rattle.change_map.specs.Long.{long_knows, long_unread, long_lawful, long_reads};
+ghost use Rattle.change_table.specs.Long.{long_knows, long_unread, long_lawful, long_reads};
 
 use shape_base::memory::{Duplicate, OutOfMemory};
 use shape_base::row::{Places, Row, TableDef, Tri, Value};
