@@ -1,15 +1,15 @@
 -- The places of a test are in range.
-use Rattle.std.proofs.Common.{◌≡◌, ℕ, ◌+◌, ◌<◌, Bool, true, false, List, [], ◌∷◌, length, refl, sym, subst, arith, Option, None, Some, ◌||◌, ◌==◌}
+use Rattle.std.proofs.Common.{◌≡◌, ℕ, ◌+◌, ◌<◌, Bool, true, false, List, [], ◌∷◌, length, map, refl, sym, subst, arith, Option, None, Some, ◌||◌, ◌==◌}
 use Rattle.std.specs.Prelude.{nat_le, nat_lt}
 use Rattle.std.specs.Bool.{if◌then◌else◌}
-use Rattle.std.specs.List.{list_any, list_all, AllByRecursion}
+use Rattle.std.specs.List.{list_any, list_all, AllByRecursion, IsDistinct}
 use Rattle.std.proofs.lemmas.Bool.Decides.{nat_tests, Decides-eqb}
 use Rattle.std.specs.Ordering.{nat_cmp, is_lt}
 use Rattle.std.specs.Cmp.Lexicographic.{slice_cmp}
 use Rattle.shape_base.specs.declared.row.Column.{Column}
 use Rattle.shape_base.specs.declared.row.TableDef.{TableDef}
 use Rattle.shape_base.specs.Visibility.{rise_between}
-use Rattle.shape_base.specs.Tables.{place_of, places_of, with_place}
+use Rattle.shape_base.specs.Tables.{same_text, place_of, places_of, with_place}
 use Rattle.shape_base.specs.Shape.{Knows, IsTest, name_at, put_place, by_name}
 use Rattle.shape_base.proofs.Tests.{both_true}
 
@@ -76,3 +76,7 @@ selected_in s d ps test p q = subst (λ (e : TableDef). AreBelow (length e.colum
 
 pub ordered_in : (s : Knows) (d : TableDef) (ps : List ℕ) → IsTest s → d ≡ s.definition → ps ≡ by_name s.definition s.selected → AreBelow (length d.columns) ps
 ordered_in s d ps test p q = subst (λ (e : TableDef). AreBelow (length e.columns) ps) (sym p) (subst (λ xs. AreBelow (length s.definition.columns) xs) (sym q) (ordered_below s test))
+
+-- no two selected columns have one name
+pub names_in : (s : Knows) (d : TableDef) (ps : List ℕ) → IsTest s → d ≡ s.definition → ps ≡ s.selected → IsDistinct same_text (map (name_at d) ps)
+names_in s d ps test p q = subst (λ (e : TableDef). IsDistinct same_text (map (name_at e) ps)) (sym p) (subst (λ (xs : List ℕ). IsDistinct same_text (map (name_at s.definition) xs)) (sym q) test.names)

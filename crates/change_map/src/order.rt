@@ -1,15 +1,16 @@
 //! The order in which the cells of a shape stand.
-ghost use Rattle.std.specs.Ordering.{nat_cmp, is_lt};
-ghost use Rattle.std.specs.Cmp.Lexicographic.{slice_cmp};
-ghost use Rattle.std.specs.Prelude.{◌≡◌, ◌<◌, ◌≤◌, length, IfOk};
-ghost use Rattle.std.specs.List.{AllByRecursion, insert};
-ghost use Rattle.shape_base.specs.Shape.{name_at, put_place, by_name};
+ghost use Rattle.std.specs.Prelude.{◌≡◌, ◌<◌, length, map, IfOk};
+ghost use Rattle.std.specs.List.{AllByRecursion, IsDistinct};
+ghost use Rattle.std.specs.BTreeMap.{values};
+ghost use Rattle.shape_base.specs.Tables.{same_text};
+ghost use Rattle.shape_base.specs.Shape.{name_at, by_name};
 
 use shape_base::memory::OutOfMemory;
 use shape_base::row::{Places, TableDef};
 use shape_base::seq::Seq;
 use shape_base::text::Text;
 use std::alloc::Global;
+use std::collections::BTreeMap;
 
 pub(crate) fn name_of(definition: &TableDef, place: u32) -> &Text
     requires { place < length definition.now.columns }
@@ -18,28 +19,24 @@ pub(crate) fn name_of(definition: &TableDef, place: u32) -> &Text
     &definition.columns.at(u64::from(place)).name
 }
 
-/// Whether a column's name is before another's, in byte order.
-fn is_before(definition: &TableDef, place: u32, other: u32) -> bool
-    requires place { place < length definition.now.columns }
-    requires other { other < length definition.now.columns }
-    ensures { result ≡ is_lt (slice_cmp nat_cmp (name_at definition.now place) (name_at definition.now other)) }
+/// The selected places under their columns' names.
+fn places_by_name<'a>(
+    alloc: Global,
+    definition: &'a TableDef,
+    selected: &[u32],
+) -> Result<BTreeMap<&'a Text, u32>, OutOfMemory>
+    requires places { AllByRecursion (λ p. p < length definition.now.columns) selected.now }
+    requires distinct { IsDistinct same_text (map (name_at definition.now) selected.now) }
+    ensures order { IfOk result (λ named. values named ≡ by_name definition.now selected.now) }
 {
-    *name_of(definition, place) < *name_of(definition, other)
-}
-
-/// Where a column goes among those that stand in byte order of their names.
-fn place_among(definition: &TableDef, place: u32, order: &[u32]) -> usize
-    requires place { place < length definition.now.columns }
-    requires places { AllByRecursion (λ p. p < length definition.now.columns) order.now }
-    ensures within { result ≤ length order.now }
-    ensures put { insert order.now result place ≡ put_place definition.now place order.now }
-{
-    for (index, other) in order.iter().enumerate() {
-        if is_before(definition, place, *other) {
-            return index;
-        }
+    let mut named = BTreeMap::new(alloc);
+    let mut left = selected.len();
+    while left > 0 {
+        left -= 1;
+        let place = selected[left];
+        named.insert(name_of(definition, place), place)?;
     }
-    order.len()
+    Ok(named)
 }
 
 /// The selected places, in byte order of their columns' names.
@@ -48,16 +45,14 @@ pub(crate) fn in_name_order(
     definition: &TableDef,
     selected: &[u32],
 ) -> Result<Places, OutOfMemory>
-    requires { AllByRecursion (λ p. p < length definition.now.columns) selected.now }
+    requires places { AllByRecursion (λ p. p < length definition.now.columns) selected.now }
+    requires distinct { IsDistinct same_text (map (name_at definition.now) selected.now) }
     ensures order { IfOk result (λ order. order ≡ by_name definition.now selected.now) }
 {
-    let mut order = Vec::with_capacity(alloc, selected.len())?;
-    let mut left = selected.len();
-    while left > 0 {
-        left -= 1;
-        let place = selected[left];
-        let index = place_among(definition, place, &order);
-        order.insert(index, place)?;
+    let named = places_by_name(alloc, definition, selected)?;
+    let mut order = Vec::with_capacity(alloc, named.len())?;
+    for place in named.into_values() {
+        order.push(place)?;
     }
     Ok(Seq::from_vec(order))
 }
