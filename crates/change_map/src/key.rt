@@ -5,7 +5,7 @@ ghost use Rattle.std.specs.Str.{IsUtf8};
 ghost use Rattle.shape_base.specs.declared.row.Value.TheVariants.{Null};
 ghost use Rattle.shape_base.specs.Tables.{Values, is_null, lacks_key, key_values, same_row, same_text};
 ghost use Rattle.shape_base.specs.Shape.{Knows, IsLeast, quoted, words_of, key_text};
-ghost use Rattle.change_map.specs.Keys.{is_null_key, AreParts, parts_of, parts_text, TellsKey};
+ghost use Rattle.change_map.specs.Keys.{is_null_key, AreParts, Spells, parts_of, TellsKey};
 
 use shape_base::memory::OutOfMemory;
 use shape_base::quote::push_quoted;
@@ -178,7 +178,7 @@ pub fn key_text<T: RowTest>(alloc: Global, test: &T, row: &Row) -> Result<Text, 
     ensures given { IfOk result (λ text. lacks_key (T.knows test.now).key row.now ≡ false) }
     ensures null { (column : ℕ) → IsErrOf result (KeyError.NullKey column) → IsLeast (is_null_key (T.knows test.now).key row.now) column }
     ensures tells { IfOk result (λ text. TellsKey (T.knows test.now) row.now text) }
-    ensures parts { IfOk result (λ text. AreParts (parts_of (T.knows test.now) row.now) × (text ≡ parts_text (parts_of (T.knows test.now) row.now))) }
+    ensures parts { IfOk result (Spells (parts_of (T.knows test.now) row.now)) }
 {
     if let Some(column) = null_key(test.key().as_slice(), row) {
         return Err(KeyError::NullKey { column });

@@ -11,4 +11,4 @@ pub returns-clause-tells : goal.returns-clause-tells
 returns-clause-tells g c = tells_key (g.T.RowTest.knows c.args.test.now) c.args.row.now c.in_ok-write_key.field-0 (subst (λ ks. lacks_key ks c.args.row.now ≡ false) (c.as_slice.ensures ∙ c.key.ensures) c.in_default.ensures) c.in_ok-write_key.ensures.text
 
 pub returns-clause-parts : goal.returns-clause-parts
-returns-clause-parts g c = (c.in_ok-write_key.ensures.parts, c.in_ok-write_key.ensures.text ∙ text_of_parts (g.T.RowTest.knows c.args.test.now) c.args.row.now)
+returns-clause-parts g c = record { parts = c.in_ok-write_key.ensures.parts; is = c.in_ok-write_key.ensures.text ∙ text_of_parts (g.T.RowTest.knows c.args.test.now) c.args.row.now }
