@@ -1,3 +1,5 @@
 pub mod Sets
 pub mod Telling
 pub mod Writing
+pub mod Indexing
+pub mod Reading

@@ -109,3 +109,7 @@ order_from_set xs ys h = btree_set_from_contains nat_list_cmp_total (record { ke
 
 pub set_from_order : (xs ys : Names) → in_order xs ≡ in_order ys → IsSameSet xs ys
 set_from_order xs ys e q = sym (has_in_order xs q) ∙ ap (λ (ns : Names). has ns q) e ∙ has_in_order ys q
+
+-- whether the set of the program has a name
+pub in_set : (set : BTreeSet (List ℕ)) (names : Names) → set.keys ≡ in_order names → (q : List ℕ) → contains text_cmp set q ≡ has names q
+in_set set names e q = has_tied set.keys q ∙ ap (λ (ns : Names). has ns q) e ∙ has_in_order names q
