@@ -5,6 +5,7 @@ use Rattle.std.specs.Option.{option_map}
 use Rattle.std.specs.BTreeMap as tree
 use Rattle.std.specs.BTreeMap.{BTreeMap, is_at}
 use Rattle.std.specs.BTreeSet.{BTreeSet}
+use Rattle.std.specs.Map.{lookup}
 use Rattle.shape_base.specs.declared.row.Column.{Column}
 use Rattle.shape_base.specs.Tables.{same_text, place_of}
 use Rattle.shape_base.proofs.MapLaws.{text_cmp}
@@ -74,13 +75,13 @@ twice_found cs i j c m k later lt next is key found before some =
 
 unmoved : (o : Option ℕ) → moved 0 o ≡ o
 unmoved None = refl
-unmoved (Some p) = refl
+unmoved (Some p) = let same : p + 0 ≡ p = omega arith in ap Some same
 
 pub index_done : (cs : List Column) (i : ℕ) (m : BTreeMap (List ℕ) ℕ) → i ≡ 0 → ((q : List ℕ) → place_in m q ≡ moved i (place_of (drop i cs) q)) → IsIndex m cs
 index_done cs i m none h = record { finds = λ x q. (subst (λ k. place_in m q ≡ moved k (place_of (drop k cs) q)) none (h q) ∙ unmoved (place_of cs q)) x }
 
 pub index_none : (cs : List Column) (m : BTreeMap (List ℕ) ℕ) → m.entries ≡ [] → (q : List ℕ) → place_in m q ≡ None
-index_none cs m e q = ap (λ es. tree.get text_cmp (record { entries = es }) q) e
+index_none cs m e q = ap (λ (es : List (List ℕ × ℕ)). lookup (is_at (text_cmp q)) es) e
 
 -- the chosen places
 

@@ -3,3 +3,4 @@ pub mod Telling
 pub mod Writing
 pub mod Indexing
 pub mod Reading
+pub mod Lawful

@@ -1,10 +1,12 @@
 -- The truth of a row under a clause's text, and why a text is no clause over columns.
-use Rattle.std.specs.Prelude.{ℕ, Bool, false, List, Option, None, Some, Result, Ok, Err}
+use Rattle.std.specs.Prelude.{◌≡◌, refl, ℕ, Bool, true, false, List, length, Option, None, Some, Result, Ok, Err, is_none, if◌then◌else◌}
+use Rattle.std.specs.List.{list_any, range_with_len}
 use Rattle.std.specs.Option.{option_map}
 use Rattle.shape_base.specs.declared.row.Column.{Column}
 use Rattle.shape_base.specs.declared.row.Tri.{Tri}
 use Rattle.shape_base.specs.declared.row.Tri.TheVariants.{True, Unknown}
 use Rattle.shape_base.specs.Tables.{Values}
+use Rattle.shape_base.specs.Shape.{reads_from}
 use Rattle.where_grammar.specs.Tree.{Tree}
 use Rattle.where_grammar.specs.Clause.{tokens_in}
 use Rattle.where_grammar.specs.Meaning.{clause_of}
@@ -61,3 +63,16 @@ refusal_by c (Err error) = Some (of_parse error)
 abbrev pub refusal_of_clause : List Column → Option (List ℕ) → Option DefError
 refusal_of_clause c None = None
 refusal_of_clause c (Some text) = refusal_by c (answer_in text)
+
+none_where : (b : Bool) (truth : Tri) → is_none (if b then None else Some truth) ≡ b
+none_where true truth = refl
+none_where false truth = refl
+
+reads_by : (c : List Column) (answer : Result Tree ParseError) (row : Values) → is_none (truth_by c answer row) ≡ list_any (unread_by c answer row) (range_with_len 0 (length row))
+reads_by c (Ok tree) row = none_where _ _
+reads_by c (Err error) row = reads_from 0 (length row)
+
+-- a row has no truth exactly where it has a column that cannot be read
+pub reads_under : (c : List Column) (clause : Option (List ℕ)) (row : Values) → is_none (truth_under c clause row) ≡ list_any (unread_under c clause row) (range_with_len 0 (length row))
+reads_under c None row = reads_from 0 (length row)
+reads_under c (Some text) row = reads_by c (answer_in text) row

@@ -3,10 +3,12 @@
 
 mod choosing;
 mod condition;
+mod defining;
 mod faults;
 mod identities;
 mod index;
 pub mod laws;
 
+pub use defining::Def;
 pub use faults::DefError;
 pub use identities::identity;
