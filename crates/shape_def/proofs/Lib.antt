@@ -4,3 +4,4 @@ pub mod Writing
 pub mod Indexing
 pub mod Reading
 pub mod Lawful
+pub mod Refusals
