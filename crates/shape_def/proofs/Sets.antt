@@ -62,7 +62,6 @@ has_in_order (x ∷ xs) q = has_insert x q (in_order xs) ∙ ap (λ b. same_text
 
 -- they rise strictly
 
-
 above_all : (k x : List ℕ) (xs : Names) → text_cmp k x ≡ Less → AllByRecursion (λ y. text_cmp x y ≡ Less) xs → AllByRecursion (λ y. text_cmp k y ≡ Less) xs
 above_all k x [] h a = tt
 above_all k x (y ∷ ys) h a = (nat_list_cmp_total.trans k x y h a.0, above_all k x ys h a.1)
@@ -101,7 +100,6 @@ insert_sorted k (x ∷ xs) s = sorted_step k x xs (text_cmp k x) refl s (insert_
 order_sorted : (names : Names) → IsStrictlySortedBy text_cmp (in_order names)
 order_sorted [] = none_sorted
 order_sorted (x ∷ xs) = insert_sorted x (in_order xs) (order_sorted xs)
-
 
 -- one set of names has one order
 pub order_from_set : (xs ys : Names) → IsSameSet xs ys → in_order xs ≡ in_order ys

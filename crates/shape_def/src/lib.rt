@@ -8,8 +8,6 @@ mod faults;
 mod identities;
 mod index;
 pub mod laws;
-#[cfg(test)]
-mod tests;
 
 pub use defining::Def;
 pub use faults::DefError;
