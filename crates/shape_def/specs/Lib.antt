@@ -1,0 +1,5 @@
+pub mod Identity
+pub mod Clauses
+pub mod Definition
+pub mod Held
+pub mod Indexed
