@@ -1,5 +1,5 @@
 -- The laws of a definition's test.
-use Rattle.std.proofs.Common.{◌≡◌, ◌≢◌, ℕ, zero, suc, ◌+◌, ◌<◌, ◌≤◌, Bool, true, false, not, List, [], ◌∷◌, length, map, drop, get_or, refl, sym, ◌∙◌, ap, subst, arith, zero-add, add-one, Option, None, Some, is_none, is_some, ◌||◌, ◌&&◌, ◌==◌}
+use Rattle.std.proofs.Common.{◌≡◌, ◌≢◌, ℕ, zero, suc, ◌+◌, ◌<◌, ◌≤◌, Bool, true, false, not, List, [], ◌∷◌, length, map, drop, get_or, refl, sym, ◌∙◌, ap, subst, arith, zero-add, Option, None, Some, is_some, ◌||◌, ◌&&◌, ◌==◌}
 use Rattle.std.specs.Prelude.{nat_le, nat_lt, AllPairs}
 use Rattle.std.specs.Bool.{if◌then◌else◌}
 use Rattle.std.specs.Option.{option_map}
@@ -13,7 +13,7 @@ use Rattle.shape_base.specs.Tables.{same_text, place_of, places_of, with_place, 
 use Rattle.shape_base.specs.Shape.{IsTest, name_at}
 use Rattle.shape_base.proofs.Tests.{Decides-same_text, false_from}
 use Rattle.shape_def.specs.Identity.{Names}
-use Rattle.shape_def.specs.Definition.{has_name_twice, is_chosen, places_from, leaves_out, knows_of}
+use Rattle.shape_def.specs.Definition.{has_name_twice, places_from, leaves_out, knows_of}
 
 -- ---- the places of different names are different
 

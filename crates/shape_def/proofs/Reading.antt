@@ -15,10 +15,7 @@ use Rattle.where_parser.proofs.Parsed.{tree_answer, syntax_answer, deep_answer}
 use Rattle.where_eval.specs.declared.checked.Checked.{Checked}
 use Rattle.where_eval.specs.declared.faults.CheckError.{CheckError}
 use Rattle.where_eval.specs.declared.faults.CheckError.TheVariants as checking
-use Rattle.where_eval.specs.Faults.{fault_of}
 use Rattle.where_eval.specs.Checked.{IsChecked, IsCheck, IsTruth, width}
-use Rattle.shape_def.specs.declared.faults.DefError.{DefError}
-use Rattle.shape_def.specs.declared.faults.DefError.TheVariants as errors
 use Rattle.shape_def.specs.Clauses.{answer_in, truth_by, truth_under, unread_by, unread_under, of_parse, of_check, refusal_by}
 use Rattle.shape_def.specs.Definition.{IsRefusal}
 use Rattle.shape_def.specs.Held.{IsHeldFor, IsHeld}

@@ -1,7 +1,6 @@
 -- Identities tell shapes apart.
-use Rattle.std.proofs.Common.{◌≡◌, ℕ, List, [], ◌∷◌, ◌++◌, refl, sym, ◌∙◌, ap, subst, arith, append_assoc, Option, None, Some}
+use Rattle.std.proofs.Common.{◌≡◌, ℕ, List, [], ◌∷◌, ◌++◌, refl, sym, ◌∙◌, ap, arith, append_assoc, Option, None, Some}
 use Rattle.std.specs.Prelude.{codes}
-use Rattle.std.specs.List.{flat_map}
 use Rattle.shape_base.specs.Shape.{quoted}
 use Rattle.shape_base.proofs.KeyText.{IsApart, quoted_split}
 use Rattle.shape_def.specs.Identity.{Names, Shape, in_order, behind_commas, joined, columns_part, clause_part, identity, IsSameChoice, IsSameShape, IdentitiesTell}

@@ -1,4 +1,4 @@
-use Rattle.std.proofs.Common.{rules, arith}
+use Rattle.std.proofs.Common.{arith}
 use Rattle.shape_def.proofs.Writing.{with_byte}
 use Rattle.shape_def.proofs.identities.push_comma.Goals as goal
 
