@@ -6,6 +6,7 @@ set -euo pipefail
 each=${1:-250000}
 top=$(cd "$(dirname "$0")/.." && pwd)
 . "$top/bench/timing.sh"
+clock=%R
 needs rt
 [ -x "$top/crates/lock_bench/out/lock_bench" ] || (cd "$top/crates/lock_bench" && rt run <stdin >/dev/null 2>&1) || { echo "lock_bench does not run"; exit 1; }
 program=$top/crates/lock_bench/out/lock_bench

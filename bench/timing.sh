@@ -11,16 +11,18 @@ needs() {
     done
 }
 
-# seconds RUNS FILE WORDS..: the least time in seconds of so many runs of a command or a function with the file as input. What the last run answered is in
-# $answer. Where a run fails, so does the call.
+# What seconds counts: those of the processor, for the command and for the system on its behalf, which other work on the machine hardly lengthens. A script
+# whose commands have several threads counts those that pass, by clock=%R.
+clock='%U %S'
+
+# seconds RUNS FILE WORDS..: the least seconds of so many runs of a command or a function with the file as input. What the last run answered is in $answer.
+# Where a run fails, so does the call.
 seconds() {
-    local runs=$1 file=$2 best='' start end
+    local runs=$1 file=$2 best='' took TIMEFORMAT=$clock
     shift 2
     for _ in $(seq "$runs"); do
-        start=$(date +%s.%N)
-        "$@" < "$file" > "$answer" || { echo "$(basename "$0"): $1 fails" >&2; return 1; }
-        end=$(date +%s.%N)
-        best=$(awk -v start="$start" -v end="$end" -v best="$best" 'BEGIN { took = end - start; print (best == "" || took < best) ? took : best }')
+        took=$({ time "$@" < "$file" > "$answer" 2>&3; } 3>&2 2>&1) || { echo "$(basename "$0"): $1 fails" >&2; return 1; }
+        best=$(awk -v best="$best" '{ took = $1 + $2; print (best == "" || took < best) ? took : best }' <<< "$took")
     done
     echo "$best"
 }
