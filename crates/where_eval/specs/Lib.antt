@@ -13,3 +13,4 @@ pub mod MemberFaults
 pub mod Compiled
 pub mod Checked
 pub mod Laws
+pub mod Indexed

@@ -8,7 +8,7 @@ ghost use Rattle.where_eval.specs.Checked.{IsCheck, AreRead, IsKnown};
 
 use crate::asking::{ask_one, fault};
 use crate::checked::Checked;
-use crate::columns::kind_at;
+use crate::columns::{Index, kind_at};
 use crate::compile::compile;
 use crate::faults::CheckError;
 use crate::leaves::{Leaf, add_leaves, first_unknown};
@@ -19,7 +19,7 @@ use std::alloc::Global;
 use where_parser::expr::Expr;
 
 /// A kind for each column: the last one.
-fn no_kinds(alloc: Global, columns: &Columns) -> Result<Vec<Kind>, OutOfMemory>
+fn no_kinds(alloc: Global, columns: &Index) -> Result<Vec<Kind>, OutOfMemory>
     ensures { IfOk result (λ kinds. AreRead columns.now [] kinds.items) }
 {
     let mut kinds = Vec::new(alloc);
@@ -39,7 +39,7 @@ fn put_kind(kinds: &mut Vec<Kind>, place: u64, kind: Kind)
 }
 
 /// For each column the kind under which a leaf reads it.
-fn kinds_read(alloc: Global, columns: &Columns, leaves: &[Leaf]) -> Result<Vec<Kind>, OutOfMemory>
+fn kinds_read(alloc: Global, columns: &Index, leaves: &[Leaf]) -> Result<Vec<Kind>, OutOfMemory>
     ensures { IfOk result (λ kinds. AreRead columns.now leaves.now kinds.items) }
 {
     let mut kinds = no_kinds(alloc, columns)?;
@@ -54,7 +54,7 @@ fn kinds_read(alloc: Global, columns: &Columns, leaves: &[Leaf]) -> Result<Vec<K
 }
 
 /// The leaves of a clause each name of which is a column's.
-fn known_leaves(alloc: Global, columns: &Columns, expr: &Expr) -> Result<Vec<Leaf>, CheckError>
+fn known_leaves(alloc: Global, columns: &Index, expr: &Expr) -> Result<Vec<Leaf>, CheckError>
     ensures { IsKnown (λ leaves. leaves.items) columns.now (tree_of expr.now) result }
 {
     let mut leaves = Vec::new(alloc);
@@ -66,7 +66,7 @@ fn known_leaves(alloc: Global, columns: &Columns, expr: &Expr) -> Result<Vec<Lea
 }
 
 /// Looks for the first faulty node, and then asks that the whole is bool.
-fn ask(columns: &Columns, expr: &Expr) -> Result<(), CheckError>
+fn ask(columns: &Index, expr: &Expr) -> Result<(), CheckError>
     ensures { Passes result (first_of (fault_in columns.now 0 (tree_of expr.now) ∷ asked columns.now Boolean 0 (tree_of expr.now ∷ []) ∷ [])) }
 {
     let _ = fault(columns, 0, expr)?;
@@ -79,12 +79,13 @@ fn ask(columns: &Columns, expr: &Expr) -> Result<(), CheckError>
 pub fn check(alloc: Global, expr: &Expr, columns: &Columns) -> Result<Checked, CheckError>
     ensures { IsCheck columns.now (tree_of expr.now) result }
 {
-    let leaves = known_leaves(alloc, columns, expr)?;
-    ask(columns, expr)?;
+    let index = Index::new(alloc, columns)?;
+    let leaves = known_leaves(alloc, &index, expr)?;
+    ask(&index, expr)?;
     if columns.len() > 0x1_0000_0000 {
         return Err(CheckError::OutOfMemory);
     }
-    let kinds = kinds_read(alloc, columns, leaves.as_slice())?;
-    let plan = compile(alloc, columns, Kind::Boolean, expr)?;
+    let kinds = kinds_read(alloc, &index, leaves.as_slice())?;
+    let plan = compile(alloc, &index, Kind::Boolean, expr)?;
     Ok(Checked { plan, kinds })
 }

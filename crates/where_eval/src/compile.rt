@@ -9,7 +9,7 @@ ghost use Rattle.where_eval.specs.Truth.{values_of};
 ghost use Rattle.where_parser.specs.View.{tree_of, trees_of};
 ghost use Rattle.where_eval.specs.Compiled.{Compiles, AllCompile};
 
-use crate::columns::{kind_at, place_of};
+use crate::columns::{Index, kind_at, place_of};
 use crate::constant::Constant;
 use crate::datum::{Datum, read};
 use crate::kinds::{kind_of_list, kind_of_three, kind_of_two};
@@ -17,7 +17,6 @@ use crate::like::pieces;
 use crate::plan::{Plan, Plans};
 use pg_values::kind::Kind;
 use shape_base::memory::{Duplicate, OutOfMemory};
-use shape_base::row::Columns;
 use shape_base::text::Text;
 use std::alloc::Global;
 use where_parser::expr::{CmpOp, Expr, Exprs, IsTest};
@@ -35,7 +34,7 @@ fn constant(alloc: Global, text: &Text, kind: Kind) -> Result<Constant, OutOfMem
     }
 }
 
-fn column(columns: &Columns, kind: Kind, name: &Text) -> Plan
+fn column(columns: &Index, kind: Kind, name: &Text) -> Plan
     ensures { Compiles columns.now kind result (NameOf name.now) }
 {
     match place_of(columns, name) {
@@ -64,7 +63,7 @@ fn chain(alloc: Global, mut members: Vec<Plan>) -> Result<Plans, OutOfMemory>
 #[cycle(compile)]
 fn members(
     alloc: Global,
-    columns: &Columns,
+    columns: &Index,
     kind: Kind,
     list: &Exprs,
 ) -> Result<Vec<Plan>, OutOfMemory>
@@ -86,7 +85,7 @@ fn members(
 #[cycle(compile)]
 fn compile_all(
     alloc: Global,
-    columns: &Columns,
+    columns: &Index,
     kind: Kind,
     list: &Exprs,
 ) -> Result<Plans, OutOfMemory>
@@ -96,12 +95,7 @@ fn compile_all(
 }
 
 #[cycle(compile)]
-fn boxed(
-    alloc: Global,
-    columns: &Columns,
-    kind: Kind,
-    expr: &Expr,
-) -> Result<Box<Plan>, OutOfMemory>
+fn boxed(alloc: Global, columns: &Index, kind: Kind, expr: &Expr) -> Result<Box<Plan>, OutOfMemory>
     ensures { IfOk result (λ boxed. Compiles columns.now kind boxed.value (tree_of expr.now)) }
 {
     Ok(Box::new(alloc, compile(alloc, columns, kind, expr)?)?)
@@ -111,7 +105,7 @@ fn boxed(
 #[cycle(compile)]
 fn tested(
     alloc: Global,
-    columns: &Columns,
+    columns: &Index,
     left: &Expr,
     not: bool,
     test: IsTest,
@@ -133,7 +127,7 @@ fn tested(
 #[cycle(compile)]
 fn distinct(
     alloc: Global,
-    columns: &Columns,
+    columns: &Index,
     left: &Expr,
     not: bool,
     right: &Expr,
@@ -152,7 +146,7 @@ fn distinct(
 #[cycle(compile)]
 fn compared(
     alloc: Global,
-    columns: &Columns,
+    columns: &Index,
     op: CmpOp,
     left: &Expr,
     right: &Expr,
@@ -171,7 +165,7 @@ fn compared(
 #[cycle(compile)]
 fn within(
     alloc: Global,
-    columns: &Columns,
+    columns: &Index,
     left: &Expr,
     not: bool,
     list: &Exprs,
@@ -190,7 +184,7 @@ fn within(
 #[cycle(compile)]
 fn between(
     alloc: Global,
-    columns: &Columns,
+    columns: &Index,
     left: &Expr,
     not: bool,
     low: &Expr,
@@ -209,12 +203,7 @@ fn between(
 
 /// The plan of a part; a string is read under the kind.
 #[cycle(compile)]
-pub fn compile(
-    alloc: Global,
-    columns: &Columns,
-    kind: Kind,
-    expr: &Expr,
-) -> Result<Plan, OutOfMemory>
+pub fn compile(alloc: Global, columns: &Index, kind: Kind, expr: &Expr) -> Result<Plan, OutOfMemory>
     ensures { IfOk result (λ plan. Compiles columns.now kind plan (tree_of expr.now)) }
 {
     match expr {

@@ -4,9 +4,8 @@ ghost use Rattle.shape_base.specs.Tables.{place_of as place_in};
 ghost use Rattle.where_parser.specs.View.{tree_of, trees_of};
 ghost use Rattle.where_eval.specs.Leaves.{leaves as leaves_of, all_leaves, leaf_at, stepped as stepped_number, unknown_from};
 
-use crate::columns::place_of;
+use crate::columns::{Index, place_of};
 use shape_base::memory::OutOfMemory;
-use shape_base::row::Columns;
 use shape_base::text::Text;
 use where_parser::expr::{Expr, Exprs};
 
@@ -29,7 +28,7 @@ pub fn stepped(number: u32) -> u32
 
 /// Adds the leaves of the members.
 #[cycle(leaves)]
-fn add_members(out: &mut Vec<Leaf>, columns: &Columns, list: &Exprs) -> Result<(), OutOfMemory>
+fn add_members(out: &mut Vec<Leaf>, columns: &Index, list: &Exprs) -> Result<(), OutOfMemory>
     ensures { OnOk result (out.new.items ≡ out.old.items ++ all_leaves columns.now (trees_of list.now)) }
 {
     let mut left = list;
@@ -42,7 +41,7 @@ fn add_members(out: &mut Vec<Leaf>, columns: &Columns, list: &Exprs) -> Result<(
 
 /// Adds the leaves of a part.
 #[cycle(leaves)]
-pub fn add_leaves(out: &mut Vec<Leaf>, columns: &Columns, expr: &Expr) -> Result<(), OutOfMemory>
+pub fn add_leaves(out: &mut Vec<Leaf>, columns: &Index, expr: &Expr) -> Result<(), OutOfMemory>
     ensures { OnOk result (out.new.items ≡ out.old.items ++ leaves_of columns.now (tree_of expr.now)) }
 {
     match expr {
@@ -88,7 +87,7 @@ fn add(out: &mut Vec<Leaf>, leaf: Leaf) -> Result<(), OutOfMemory>
     Ok(())
 }
 
-fn named(columns: &Columns, name: &Text) -> Leaf
+fn named(columns: &Index, name: &Text) -> Leaf
     ensures { result ≡ leaf_at (place_in columns.now name.now) }
 {
     match place_of(columns, name) {
