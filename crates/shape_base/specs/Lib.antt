@@ -8,6 +8,7 @@ pub mod Tables
 pub mod GoodSteps
 pub mod Visibility
 pub mod Snapshot
+pub mod RegistryHistory
 pub mod Shape
 pub mod Log
 pub mod Chunks

@@ -4,6 +4,7 @@
 pub mod ask;
 #[cfg(test)]
 mod cases;
+pub mod cause;
 pub mod decimal;
 pub mod handle;
 pub mod history;
@@ -14,6 +15,7 @@ pub mod offset;
 pub mod outside;
 pub mod plain;
 pub mod quote;
+pub mod registry_event;
 pub mod row;
 pub mod row_test;
 pub mod same;
