@@ -8,9 +8,7 @@ ghost use Rattle.change_map.specs.Emitting.{in_order, own, IsWhole, IsBadAt, IsC
 use crate::cells::{cells_at, cells_that_differ};
 use crate::key::{have_same_key, null_key, write_key};
 use crate::order::in_name_order;
-use shape_base::memory::OutOfMemory;
-use shape_base::row::{Cells, Change, ChangeKind, Entry, Offset, Op, Places, Row, Tri};
-use shape_base::row_test::RowTest;
+use shape_base::{Cells, Change, ChangeKind, Entry, Offset, Op, OutOfMemory, Places, Row, RowTest, Tri};
 use std::alloc::Global;
 
 /// The entries of one change: none, one, or a delete and then an insert.

@@ -2,7 +2,7 @@
 use Rattle.std.proofs.Common.{◌≡◌, ℕ, List, [], ◌∷◌, refl}
 use Rattle.std.specs.Prelude.{codes}
 use Rattle.std.specs.List.{IsDistinct}
-use Rattle.shape_base.specs.declared.row.TableDef.{TableDef}
+use Rattle.shape_base.specs.declared.definition.TableDef.{TableDef}
 use Rattle.shape_base.specs.declared.served.Served.{Served}
 use Rattle.shape_base.specs.Shape.{IsTest, plain_knows}
 use Rattle.change_table.specs.Long.{item_columns, tag_columns}

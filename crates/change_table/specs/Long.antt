@@ -3,14 +3,14 @@ use Rattle.std.proofs.Common.{◌≡◌, ℕ, zero, suc, ◌+◌, ◌<◌, Bool,
 use Rattle.std.specs.Prelude.{is_none, codes}
 use Rattle.std.specs.List.{list_any, range_with_len, slice_index_or}
 use Rattle.std.proofs.lemmas.Bool.Decides.{Decides-eqb}
-use Rattle.shape_base.specs.declared.row.Value.{Value}
-use Rattle.shape_base.specs.declared.row.Value.TheVariants.{Null, Words}
-use Rattle.shape_base.specs.declared.row.TableDef.{TableDef}
-use Rattle.shape_base.specs.declared.row.Column.{Column}
-use Rattle.shape_base.specs.declared.row.ChangeKind.{ChangeKind}
-use Rattle.shape_base.specs.declared.row.ChangeKind.TheVariants.{Insert, Update, Delete, Truncate}
-use Rattle.shape_base.specs.declared.row.Tri.{Tri}
-use Rattle.shape_base.specs.declared.row.Tri.TheVariants.{True, False, Unknown}
+use Rattle.shape_base.specs.declared.value.Value.{Value}
+use Rattle.shape_base.specs.declared.value.Value.TheVariants.{Null, Words}
+use Rattle.shape_base.specs.declared.definition.TableDef.{TableDef}
+use Rattle.shape_base.specs.declared.definition.Column.{Column}
+use Rattle.shape_base.specs.declared.change.ChangeKind.{ChangeKind}
+use Rattle.shape_base.specs.declared.change.ChangeKind.TheVariants.{Insert, Update, Delete, Truncate}
+use Rattle.shape_base.specs.declared.truth.Tri.{Tri}
+use Rattle.shape_base.specs.declared.truth.Tri.TheVariants.{True, False, Unknown}
 use Rattle.shape_base.specs.declared.served.Served.{Served}
 use Rattle.shape_base.specs.Tables.{Values}
 use Rattle.shape_base.specs.Shape.{Knows, IsTest, IsReader, plain_knows}

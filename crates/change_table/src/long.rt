@@ -4,11 +4,7 @@ ghost use Rattle.std.specs.Prelude.{◌≡◌, ◌<◌, length};
 ghost use Rattle.shape_base.specs.Shape.{IsTest, plain_knows};
 ghost use Rattle.change_table.specs.Long.{long_knows, long_unread, long_lawful, long_reads};
 
-use shape_base::memory::{Duplicate, OutOfMemory};
-use shape_base::row::{Places, Row, TableDef, Tri, Value};
-use shape_base::row_test::{BadValue, RowTest};
-use shape_base::served::Served;
-use shape_base::text::Text;
+use shape_base::{BadValue, Duplicate, OutOfMemory, Places, Row, RowTest, Served, TableDef, Text, Tri, Value};
 use std::alloc::Global;
 
 /// An empty text in the second column cannot be read; null has an unknown truth.

@@ -1,8 +1,6 @@
 //! What is printed of entries, key texts and their parts.
 use change_map::{EmitError, Emitted, KeyError, KeyTextError};
-use shape_base::memory::OutOfMemory;
-use shape_base::row::{Entry, Op, Texts, Value};
-use shape_base::text::Text;
+use shape_base::{Entry, Op, OutOfMemory, Text, Texts, Value};
 use std::alloc::Global;
 
 fn put_cells(out: &mut String, entry: &Entry) -> Result<(), OutOfMemory> {

@@ -5,12 +5,7 @@ ghost use Rattle.std.specs.Prelude.{◌≡◌, ◌∷◌, [], codes, length, IfO
 ghost use Rattle.change_table.specs.Long.{item_columns, tag_columns, IsWide};
 
 use crate::long::Long;
-use shape_base::memory::OutOfMemory;
-use shape_base::plain::Plain;
-use shape_base::row::{Change, ChangeKind, Column, Columns, Places, Row, TableDef, Value};
-use shape_base::seq::Seq;
-use shape_base::served::Served;
-use shape_base::text::Text;
+use shape_base::{Change, ChangeKind, Column, Columns, OutOfMemory, Places, Plain, Row, Seq, Served, TableDef, Text, Value};
 use std::alloc::Global;
 
 fn column(alloc: Global, name: &str, oid: u32) -> Result<Column, OutOfMemory>

@@ -7,7 +7,7 @@ ghost use Rattle.where_grammar.specs.Clause.{canonical_text};
 ghost use Rattle.where_parser.specs.Whole.{IsTreeOf, IsSyntaxAt, IsDeepAt};
 ghost use Rattle.clause_lines.specs.declared.Answer.TheVariants as answers;
 
-use shape_base::text::Text;
+use shape_base::Text;
 use std::alloc::Global;
 use std::io;
 use std::io::{BufWriter, Write};

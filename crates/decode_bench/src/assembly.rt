@@ -2,11 +2,7 @@
 ghost use Rattle.pgout.specs.Grammar.{Fits};
 
 use pgout::Message;
-use shape_base::history::ServedTables;
-use shape_base::memory::OutOfMemory;
-use shape_base::row::Texts;
-use shape_base::served::Served;
-use shape_base::text::Text;
+use shape_base::{OutOfMemory, Served, ServedTables, Text, Texts};
 use std::alloc::Global;
 use tx_assembler::{Assembler, Fed};
 

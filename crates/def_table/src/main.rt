@@ -14,7 +14,7 @@ mod printing;
 mod tables;
 
 use printing::{definition_line, refusal_line, truth_line};
-use shape_base::memory::{Duplicate, OutOfMemory};
+use shape_base::{Duplicate, OutOfMemory};
 use shape_def::identity;
 use std::alloc::Global;
 use std::io;

@@ -1,7 +1,5 @@
 //! What is printed of definitions, their refusals and the truth of rows.
-use shape_base::memory::OutOfMemory;
-use shape_base::row::{Places, Row, Tri};
-use shape_base::row_test::{BadValue, RowTest};
+use shape_base::{BadValue, OutOfMemory, Places, Row, RowTest, Tri};
 use shape_def::{Def, DefError};
 use std::alloc::Global;
 

@@ -1,13 +1,7 @@
 //! Tables, requests and rows of the cases.
 ghost use Rattle.std.specs.Prelude.{◌≡◌, length, IfOk};
 
-use shape_base::ask::{Ask, Named};
-use shape_base::history::ServedTables;
-use shape_base::memory::OutOfMemory;
-use shape_base::row::{Column, Columns, Offset, Row, TableDef, Texts, Value};
-use shape_base::seq::Seq;
-use shape_base::served::Served;
-use shape_base::text::Text;
+use shape_base::{Ask, Column, Columns, Named, Offset, OutOfMemory, Row, Seq, Served, ServedTables, TableDef, Text, Texts, Value};
 use shape_def::{Def, DefError, identity};
 use std::alloc::Global;
 

@@ -1,5 +1,6 @@
 -- Each step keeps the rule.
 use Rattle.std.proofs.Common.{◌≡◌, ◌≢◌, ◌⊎◌, ℕ, zero, suc, ◌+◌, ◌-◌, ◌*◌, ◌%◌, ◌<◌, ◌≤◌, ◌||◌, eqb, cond, Bool, true, false, List, [], ◌∷◌, ◌++◌, length, get_or, set, sym, refl, ap, ◌∙◌, subst, inl, inr, ⊎_elim, arith, length-append, length-set, eq-eqb, ne_eqb, max, Option, Some, None, IsSome}
+use Rattle.std.proofs.lemmas.Bool.{or_cases, or_left, or_right}
 use mathlib.Core.List.{IsPrefix}
 use mathlib.Core.Logic.{dite}
 use mathlib.Core.Option.{some, none, some-ne-none, some-injective}
@@ -92,18 +93,6 @@ handed_here other id owner k e = ap (λ b. cond b id (owner k)) (eq-eqb (owner k
 
 handed_else : (other id : ℕ) (owner : ℕ → ℕ) (k : ℕ) → owner k ≢ other → handed other id owner k ≡ owner k
 handed_else other id owner k e = ap (λ b. cond b id (owner k)) (ne_eqb (owner k) other e)
-
-or_cases : (a b : Bool) → (a || b) ≡ true → (a ≡ true) ⊎ (b ≡ true)
-or_cases true b e = inl refl
-or_cases false b e = inr e
-
-or_left : (a b : Bool) → a ≡ true → (a || b) ≡ true
-or_left true b e = refl
-or_left false b e = absurd (cc)
-
-or_right : (a b : Bool) → b ≡ true → (a || b) ≡ true
-or_right true b e = refl
-or_right false b e = e
 
 module _ {S E F : Type 0} (stands : S → F → ℕ → List E → Type 0) (fixed : F) where
   abbrev V : Type 0

@@ -1,5 +1,5 @@
 use crate::value::{BadValueText, compare, read_bool, read_int, read_uuid};
-use shape_base::text::Text;
+use shape_base::Text;
 use std::cmp::Ordering;
 use std::test::*;
 

@@ -1,6 +1,6 @@
 //! The bytes are laid out by hand after the PostgreSQL manual, 55.9 Logical Replication Message Formats.
 use super::*;
-use shape_base::row::{Octets, Oids};
+use shape_base::{Octets, Oids};
 use std::alloc::Global;
 use std::test::*;
 

@@ -1,7 +1,5 @@
 use super::*;
-use shape_base::memory::OutOfMemory;
-use shape_base::row::Columns;
-use shape_base::text::Text;
+use shape_base::{Columns, OutOfMemory, Text};
 use std::alloc::Global;
 use std::test::*;
 

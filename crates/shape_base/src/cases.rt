@@ -2,9 +2,8 @@
 use super::handle::{Handle, HandleError};
 use super::in_memory::{MemorySink, MemorySource};
 use super::memory::OutOfMemory;
-use super::offset::BadOffset;
+use super::offset::{BadOffset, Offset};
 use super::outside::{Failed, Sink, Source};
-use super::row::Offset;
 use super::text::{Text, TextError};
 use std::alloc::Global;
 

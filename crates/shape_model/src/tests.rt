@@ -3,14 +3,7 @@
 //! A row is its values with blanks between, where `null` stands for null. Rows, changes and entries
 //! stand with `;` between. A change is its old and its new row with `>` between.
 use super::{HistoryError, ModelError, fold, good_history, table_after};
-use shape_base::history::{History, ServedTables, Step, Steps};
-use shape_base::memory::OutOfMemory;
-use shape_base::row::{
-    Cell, Cells, Change, ChangeKind, Changes, Column, Columns, Entries, Entry, KeyedRows, Offset,
-    Op, Row, Rows, TableDef, TableDefs, Tables, Texts, Tx, Value,
-};
-use shape_base::served::Served;
-use shape_base::text::Text;
+use shape_base::{Cell, Cells, Change, ChangeKind, Changes, Column, Columns, Entries, Entry, History, KeyedRows, Offset, Op, OutOfMemory, Row, Rows, Served, ServedTables, Step, Steps, TableDef, TableDefs, Tables, Text, Texts, Tx, Value};
 use std::alloc::Global;
 
 /// What a test expects of a history that is good, or of a fold that has a value.

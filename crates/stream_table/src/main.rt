@@ -21,11 +21,7 @@ mod words;
 
 use pgout::read_message;
 use printing::{fed_line, refusal_line};
-use shape_base::history::ServedTables;
-use shape_base::memory::OutOfMemory;
-use shape_base::row::Texts;
-use shape_base::served::Served;
-use shape_base::text::Text;
+use shape_base::{OutOfMemory, Served, ServedTables, Text, Texts};
 use std::alloc::{AllocError, Global};
 use std::io;
 use tx_assembler::Assembler;

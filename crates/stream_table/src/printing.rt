@@ -1,5 +1,5 @@
 //! What is printed of an answer.
-use shape_base::row::{Change, ChangeKind, Row, TableDef, Tx, Value};
+use shape_base::{Change, ChangeKind, Row, TableDef, Tx, Value};
 use std::alloc::{AllocError, Global};
 use tx_assembler::{AssembleError, Fed};
 

@@ -6,11 +6,7 @@
 ghost use Rattle.std.specs.Prelude.{◌≡◌, length};
 ghost use Rattle.where_eval.specs.Checked.{width};
 
-use shape_base::memory::OutOfMemory;
-use shape_base::row::{Column, Columns, Row, Tri, Value};
-use shape_base::row_test::BadValue;
-use shape_base::seq::Seq;
-use shape_base::text::Text;
+use shape_base::{BadValue, Column, Columns, OutOfMemory, Row, Seq, Text, Tri, Value};
 use std::alloc::Global;
 use std::io;
 use std::io::{BufWriter, Write};

@@ -8,7 +8,7 @@ ghost use Rattle.pg_values.specs.declared.kind.Kind.TheVariants.{Other};
 
 use pg_values::kind::{Kind, kind_of};
 use pg_values::value::{compare, has_value, read_bool, read_int, read_uuid};
-use shape_base::text::Text;
+use shape_base::Text;
 use std::alloc::{AllocError, Global};
 use std::cmp::Ordering;
 use std::io;

@@ -7,8 +7,7 @@ use super::answer::AssembleError;
 use super::rows::text_of;
 use pgout::ColumnsSent;
 use relation_cache::Relation;
-use shape_base::memory::OutOfMemory;
-use shape_base::row::{Column, Columns, Octets};
+use shape_base::{Column, Columns, Octets, OutOfMemory};
 use std::alloc::Global;
 
 /// The namespace as the catalogue has it: an empty one stands for `pg_catalog`.

@@ -1,12 +1,12 @@
 use Rattle.std.proofs.Common.{◌≡◌, ℕ, ◌+◌, ◌*◌, length, refl, sym, ap, subst, ◌∙◌, Ok, Bool, Option}
 use Rattle.std.specs.FinMap as map
-use Rattle.shape_base.specs.declared.row.TableDef.{TableDef}
-use Rattle.shape_base.specs.declared.row.Tx.{Tx}
+use Rattle.shape_base.specs.declared.definition.TableDef.{TableDef}
+use Rattle.shape_base.specs.declared.change.Tx.{Tx}
 use Rattle.tx_assembler.specs.Answers.{Answer}
 use Rattle.tx_assembler.specs.Kept.{target_of}
 use Rattle.tx_assembler.specs.Taking.{IsTaken, some_served}
 use Rattle.tx_assembler.proofs.Targets.{truncates, truncates_none, truncates_refused}
-use Rattle.tx_assembler.proofs.takes.take_truncate.Goals as goal
+use Rattle.tx_assembler.proofs.kept.take_truncate.Goals as goal
 
 pub returns-in-Ok-true : goal.returns-in-Ok-true
 returns-in-Ok-true c =

@@ -2,7 +2,7 @@ use Rattle.std.proofs.Common.{◌≡◌, length}
 use Rattle.std.specs.FinMap as map
 use Rattle.tx_assembler.specs.Kept.{target_of, with_changes}
 use Rattle.tx_assembler.specs.Taking.{HasMore, truncations}
-use Rattle.tx_assembler.proofs.takes.add_truncations.Given as goal
+use Rattle.tx_assembler.proofs.kept.add_truncations.Given as goal
 
 -- what is left gives the rest of the changes
 abbrev pub invariant-loop-rest : goal.invariant-loop-rest

@@ -4,7 +4,7 @@ use Rattle.std.specs.FinMap as map
 use Rattle.tx_assembler.specs.Answers.{next}
 use Rattle.tx_assembler.specs.Kept.{target_of}
 use Rattle.tx_assembler.specs.Taking.{some_served}
-use Rattle.tx_assembler.proofs.takes.is_one_served.Given as goal
+use Rattle.tx_assembler.proofs.kept.is_one_served.Given as goal
 
 -- what is left decides it, with what was found
 abbrev pub invariant-loop-rest : goal.invariant-loop-rest

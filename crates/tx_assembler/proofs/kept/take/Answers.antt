@@ -5,7 +5,7 @@ use Rattle.tx_assembler.specs.Kept.{target_of}
 use Rattle.tx_assembler.specs.Feeding.{taken_by}
 use Rattle.tx_assembler.specs.Taking.{IsTaken}
 use Rattle.tx_assembler.proofs.Targets.{truncate_taken}
-use Rattle.tx_assembler.proofs.takes.take.Goals as goal
+use Rattle.tx_assembler.proofs.kept.take.Goals as goal
 
 pub returns-in-Truncate : goal.returns-in-Truncate
 returns-in-Truncate c =

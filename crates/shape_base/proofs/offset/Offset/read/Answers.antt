@@ -1,6 +1,6 @@
 use Rattle.std.proofs.Common.{refl, ◌∙◌, sym}
 use Rattle.shape_base.proofs.Decimals.{apart, no_offset_whole, no_offset_lsn, no_offset_pos}
-use Rattle.shape_base.proofs.row.Offset.read.Goals as goal
+use Rattle.shape_base.proofs.offset.Offset.read.Goals as goal
 
 pub returns-in_default-clause-refused : goal.returns-in_default-clause-refused
 returns-in_default-clause-refused c = no_offset_whole c.args.text.now (λ e. apart _ _ (sym c.eq.ensures ∙ c.if-eq.false) (e ∙ sym c.as_slice.ensures)) (c.in_default.ensures.absent refl)

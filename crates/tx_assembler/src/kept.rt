@@ -16,9 +16,7 @@ use super::tables::table_named;
 use super::transactions::{add_change, cut_back};
 use pgout::{Before, Fields, Message};
 use relation_cache::{Relation, Relations, UnknownRelation};
-use shape_base::memory::OutOfMemory;
-use shape_base::row::{ChangeKind, Tx};
-use shape_base::served::Served;
+use shape_base::{ChangeKind, OutOfMemory, Served, Tx};
 use std::alloc::Global;
 
 /// The most bytes of kept change messages in one transaction.

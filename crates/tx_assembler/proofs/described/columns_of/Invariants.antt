@@ -1,7 +1,7 @@
 use Rattle.std.proofs.Common.{◌≡◌, ◌++◌, Ok}
 use Rattle.tx_assembler.specs.Answers.{next}
 use Rattle.tx_assembler.specs.Rows.{columns_of}
-use Rattle.tx_assembler.proofs.made.columns_of.Given as goal
+use Rattle.tx_assembler.proofs.described.columns_of.Given as goal
 
 -- what is left gives the rest of the columns
 abbrev pub invariant-loop-column : goal.invariant-loop-column

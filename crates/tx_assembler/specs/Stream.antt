@@ -1,16 +1,16 @@
 -- What an assembler answers over a whole stream.
-use Rattle.std.specs.Prelude.{◌≡◌, ℕ, nat_le, if◌then◌else◌, List, [], ◌∷◌, ◌++◌, map, Ok, Err, None, Some}
+use Rattle.std.specs.Prelude.{◌≡◌, ℕ, nat_le, if◌then◌else◌, List, [], ◌∷◌, ◌++◌, map, Ok, Err, None, Some, MatchBool}
 use Rattle.std.specs.FinMap as relations
-use Rattle.shape_base.specs.declared.row.Tx.{Tx}
+use Rattle.shape_base.specs.declared.change.Tx.{Tx}
 use Rattle.shape_base.specs.declared.served.Served.{Served}
 use Rattle.pgout.specs.declared.message.Message.{Message}
 use Rattle.tx_assembler.specs.declared.answer.Fed.{Fed}
 use Rattle.tx_assembler.specs.declared.answer.Fed.TheVariants as answers
 use Rattle.tx_assembler.specs.declared.stage.Stage.TheVariants.{Outside, Refused}
-use Rattle.tx_assembler.specs.Answers.{Answer}
+use Rattle.tx_assembler.specs.Answers.{Answer, is_memory}
 use Rattle.tx_assembler.specs.Situation.{Situation}
 use Rattle.tx_assembler.specs.Feeding.{Turn, with_stage, turn_of}
-use Rattle.tx_assembler.specs.Shown.{Stretch, messages_of, is_commit, pieces_of, concat, rest_of, lsn_of, tx_of, greatest_of, Verdict, refused_after, taken_of, shown}
+use Rattle.tx_assembler.specs.Shown.{Stretch, Sent, messages_of, is_commit, pieces_of, concat, rest_of, lsn_of, tx_of, greatest_of, Verdict, refused_after, taken_of, shown}
 
 -- ---- what is answered, message by message
 
@@ -87,6 +87,61 @@ given_in (a ∷ rest) = if_given a (given_in rest)
 abbrev pub given_over : List (List (Answer Fed)) → List Tx
 given_over [] = []
 given_over (here ∷ rest) = given_in here ++ given_over rest
+
+-- ---- one message more
+
+-- the greatest LSN of the transactions of stretches, and of those before them
+abbrev pub last_over : List Served → ℕ → List Stretch → ℕ
+last_over tables last [] = last
+last_over tables last (stretch ∷ stretches) = last_over tables (greatest_of last (pieces_of (taken_of tables last stretch))) stretches
+
+-- messages as a stretch
+abbrev pub sent : List Message → Stretch
+sent ms = map Sent ms
+
+abbrev pub due_one : Verdict → Fed → Answer Fed
+due_one None fed = Ok fed
+due_one (Some e) fed = Err e
+
+abbrev pub unless_due : Verdict → Answer Fed → Answer Fed
+unless_due None later = later
+unless_due (Some e) later = Err e
+
+-- what is due for a message behind others, which follow others of their stretch: the refusal of the first that is refused, if one is
+abbrev pub due_behind : List Served → ℕ → List Message → List Message → Message → Answer Fed
+due_behind tables last before [] m = due_one (refused_after tables last before m) (due_after tables last before m)
+due_behind tables last before (x ∷ xs) m = unless_due (refused_after tables last before x) (due_behind tables last (before ++ x ∷ []) xs m)
+
+-- What is due for a message, where these stretches are done and these messages of the present one came before it.
+abbrev pub due_next : List Served → List Stretch → List Message → Message → Answer Fed
+due_next tables done present m = due_behind tables (last_over tables 0 done) [] present m
+
+-- An assembler for these tables took the messages of these stretches, and of the present one these, each of them answered.
+pub record HasTaken (tables : List Served) (done : List Stretch) (present : List Message) (s : Situation) : Type 0 where
+  pub is : s ≡ after_all (at_start tables (last_over tables 0 done)) present
+
+-- A message more was taken: it was answered what is due, and what the stream shows grew by the transaction that was given, if one was.
+pub record TookOne (tables : List Served) (done : List Stretch) (present : List Message) (m : Message) (answer : Answer Fed) (new : Situation) : Type 0 where
+  pub due : answer ≡ due_next tables done present m
+  pub taken : HasTaken tables done (present ++ m ∷ []) new
+  pub grown : shown tables (done ++ sent (present ++ m ∷ []) ∷ []) ≡ shown tables (done ++ sent present ∷ []) ++ if_given answer []
+
+-- after each answer but want of memory
+abbrev pub UnlessMemory : Answer Fed → Type 0 → Type 0
+UnlessMemory (Ok fed) P = P
+UnlessMemory (Err e) P = MatchBool (is_memory e) (Unit {0}) P
+
+-- A message more is taken, whatever was taken before it.
+abbrev pub TakesOn : Situation → Message → Answer Fed → Situation → Type 0
+TakesOn old m answer new = (tables : List Served) (done : List Stretch) (present : List Message) → HasTaken tables done present old → UnlessMemory answer (TookOne tables done present m answer new)
+
+-- The stretch so far is done, and a new one begins.
+abbrev pub BeginsOn : Situation → Situation → Type 0
+BeginsOn old new = (tables : List Served) (done : List Stretch) (present : List Message) → HasTaken tables done present old → HasTaken tables (done ++ sent present ∷ []) [] new
+
+-- This is the greatest LSN of the transactions that were taken.
+abbrev pub IsLastTaken : Situation → ℕ → Type 0
+IsLastTaken s lsn = (tables : List Served) (done : List Stretch) (present : List Message) → HasTaken tables done present s → lsn ≡ last_over tables 0 (done ++ sent present ∷ [])
 
 -- ---- the law
 
