@@ -14,6 +14,7 @@ pub mod Snapshots
 pub mod LogLaw
 pub mod EndLaw
 pub mod Growing
+pub mod RegistryLaws
 pub mod Rising
 pub mod SameLog
 pub mod Meanings
