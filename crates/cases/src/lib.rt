@@ -10,6 +10,6 @@ mod words;
 
 pub use bytes::{bytes_of, put_bytes};
 pub use lines::{Answers, answer_lines};
-pub use rows::{put_row, put_value, row_of, value_of};
-pub use shapes::{ask_of, columns_of, served_of, texts_of};
+pub use rows::{put_row, put_value, row_of, truth_word, value_of};
+pub use shapes::{ask_of, columns_of, definition_of, served_of, tables_of, texts_of};
 pub use words::{cut, number_of};

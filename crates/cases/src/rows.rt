@@ -1,6 +1,6 @@
 //! Values and rows. As in PostgreSQL's COPY (manual, COPY, "Text Format"), `\N` stands for null.
 use shape_base::memory::OutOfMemory;
-use shape_base::row::{Row, Value};
+use shape_base::row::{Row, Tri, Value};
 use shape_base::text::Text;
 use std::alloc::Global;
 
@@ -44,4 +44,13 @@ pub fn put_row(out: &mut String, row: &Row, mark: char) -> Result<(), OutOfMemor
         put_value(out, value)?;
     }
     Ok(())
+}
+
+/// The word for a truth.
+pub fn truth_word(truth: Tri) -> &'static str {
+    match truth {
+        Tri::True => "true",
+        Tri::False => "false",
+        Tri::Unknown => "unknown",
+    }
 }

@@ -1,10 +1,10 @@
 //! Tables, columns and requests.
-ghost use Rattle.std.specs.Prelude.{◌≡◌, IfOk};
+ghost use Rattle.std.specs.Prelude.{◌≡◌, ◌≤◌, length, IfOk};
 
-use crate::words::cut;
 use shape_base::ask::{Ask, Named};
+use shape_base::history::ServedTables;
 use shape_base::memory::OutOfMemory;
-use shape_base::row::{Column, Columns, Offset, Texts};
+use shape_base::row::{Column, Columns, Offset, TableDef, Texts};
 use shape_base::served::Served;
 use shape_base::text::Text;
 use std::alloc::Global;
@@ -23,7 +23,7 @@ pub fn texts_of(alloc: Global, text: &str, mark: char) -> Result<Texts, OutOfMem
 
 /// The column of a word such as `id 23`: its name, and the OID of its type.
 fn column_of(alloc: Global, word: &str) -> Result<Column, OutOfMemory> {
-    let (name, oid) = cut(word, ' ');
+    let (name, oid) = word.rsplit_once(' ').unwrap_or((word, ""));
     let name = Text::of(alloc, name)?;
     let oid = oid.parse::<u32>().unwrap_or(0);
     Ok(Column { name, oid })
@@ -38,6 +38,23 @@ pub fn columns_of(alloc: Global, text: &str, mark: char) -> Result<Columns, OutO
     Ok(columns)
 }
 
+/// A definition of table 0 with the columns between marks, or with none where they are more than the 1,600 that a table
+/// may have (PostgreSQL manual, appendix K).
+pub fn definition_of(alloc: Global, text: &str, mark: char) -> Result<TableDef, OutOfMemory>
+    ensures table { IfOk result (λ definition. definition.table ≡ 0) }
+    ensures few { IfOk result (λ definition. length definition.columns ≤ 1600) }
+{
+    let mut columns = columns_of(alloc, text, mark)?;
+    if columns.len() > 1600 {
+        columns = Columns::new(alloc);
+    }
+    Ok(TableDef {
+        table: 0,
+        oid: 16384,
+        columns,
+    })
+}
+
 /// The served table of this schema and name whose key is one column.
 pub fn served_of(alloc: Global, ns: &str, name: &str, key: &str) -> Result<Served, OutOfMemory> {
     let mut columns = Texts::new(alloc);
@@ -47,6 +64,13 @@ pub fn served_of(alloc: Global, ns: &str, name: &str, key: &str) -> Result<Serve
         name: Text::of(alloc, name)?,
         key: columns,
     })
+}
+
+/// The list of one served table.
+pub fn tables_of(alloc: Global, table: Served) -> Result<ServedTables, OutOfMemory>
+    ensures { IfOk result (λ tables. length tables ≡ 1) }
+{
+    Ok(ServedTables::from_vec(vec![in alloc; table]?))
 }
 
 /// The first request for a shape of table 0: it names no handle, and does not wait.

@@ -1,6 +1,7 @@
 //! What is printed of definitions, their refusals and the truth of rows.
+use cases::truth_word;
 use shape_base::memory::OutOfMemory;
-use shape_base::row::{Places, Row, Tri};
+use shape_base::row::{Places, Row};
 use shape_base::row_test::{BadValue, RowTest};
 use shape_def::{Def, DefError};
 use std::alloc::Global;
@@ -48,9 +49,7 @@ pub(crate) fn truth_line(alloc: Global, def: &Def, row: &Row) -> Result<String, 
         return Ok(format!(in alloc; "a row of another width")?);
     }
     match def.truth(row) {
-        Ok(Tri::True) => Ok(format!(in alloc; "true")?),
-        Ok(Tri::False) => Ok(format!(in alloc; "false")?),
-        Ok(Tri::Unknown) => Ok(format!(in alloc; "unknown")?),
+        Ok(truth) => Ok(format!(in alloc; "{}", truth_word(truth))?),
         Err(BadValue { column }) => Ok(format!(in alloc; "bad {column}")?),
     }
 }

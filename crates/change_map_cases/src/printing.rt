@@ -1,7 +1,8 @@
 //! What is printed of entries, key texts and their parts.
+use cases::put_value;
 use change_map::{EmitError, Emitted, KeyError, KeyTextError};
 use shape_base::memory::OutOfMemory;
-use shape_base::row::{Entry, Op, Texts, Value};
+use shape_base::row::{Entry, Op, Texts};
 use shape_base::text::Text;
 use std::alloc::Global;
 
@@ -10,10 +11,7 @@ fn put_cells(out: &mut String, entry: &Entry) -> Result<(), OutOfMemory> {
         out.push(' ')?;
         out.push_str(cell.name.as_str())?;
         out.push('=')?;
-        match &cell.value {
-            Value::Null => out.push_str("null")?,
-            Value::Words(words) => out.push_str(words.as_str())?,
-        }
+        put_value(out, &cell.value)?;
     }
     Ok(())
 }
