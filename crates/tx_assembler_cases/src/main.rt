@@ -1,5 +1,5 @@
-//! Reads lines of words such as `B5 R16384:public:t:ab I16384:xy C5`, feeds the messages that they stand for to one assembler a line, and prints what the last one is
-//! answered: a table of cases for `tx_assembler`.
+//! Reads lines of words such as `B5 R16384:public:t:ab I16384:xy C5`, feeds the messages that they stand for to one assembler
+//! a line, and prints what the last one is answered, of a transaction a copy: cases for `tx_assembler`.
 //!
 //! | Word | Message |
 //! |---|---|
@@ -14,45 +14,38 @@
 //!
 //! In a row each character is a column: `-` is null, `?` was not sent, `!` is binary, `^` is a byte that is no UTF-8 (in names too), `~` is `a` and such a byte.
 //! A text of more than 16 bytes is printed as the number of its bytes in brackets.
+//!
+//! A line such as `relations 16384:a 16384:b ?16384 ?2` puts relations with these object identifiers and names into one
+//! cache, and prints for each question the name of a copy of the relation, or that it is unknown: cases for `relation_cache`.
 #![tactic(auto)]
 
+mod caching;
 mod printing;
 mod words;
 
+use caching::relations_line;
+use cases::{Answers, answer_lines, cut, served_of};
 use pgout::read_message;
 use printing::{fed_line, refusal_line};
 use shape_base::history::ServedTables;
 use shape_base::memory::OutOfMemory;
-use shape_base::row::Texts;
-use shape_base::served::Served;
-use shape_base::text::Text;
-use std::alloc::{AllocError, Global};
+use std::alloc::Global;
 use std::io;
 use tx_assembler::Assembler;
 use words::bytes_of;
 
-fn served(alloc: Global, ns: &str, name: &str) -> Result<Served, OutOfMemory> {
-    let mut key = Texts::new(alloc);
-    key.push(Text::of(alloc, "a")?)?;
-    Ok(Served {
-        ns: Text::of(alloc, ns)?,
-        name: Text::of(alloc, name)?,
-        key,
-    })
-}
-
 fn assembler(alloc: Global) -> Result<Assembler, OutOfMemory> {
     let mut tables = ServedTables::new(alloc);
-    tables.push(served(alloc, "public", "t")?)?;
-    tables.push(served(alloc, "pg_catalog", "c")?)?;
+    tables.push(served_of(alloc, "public", "t", "a")?)?;
+    tables.push(served_of(alloc, "pg_catalog", "c", "a")?)?;
     Assembler::new(alloc, tables)
 }
 
 /// What the assembler answers to the message that a word stands for.
-fn answer(alloc: Global, assembler: &mut Assembler, word: &str) -> Result<String, AllocError> {
+fn fed(alloc: Global, assembler: &mut Assembler, word: &str) -> Result<String, OutOfMemory> {
     if word == "X" {
         assembler.reopen();
-        return format!(in alloc; "reopened last {}", assembler.last());
+        return Ok(format!(in alloc; "reopened last {}", assembler.last())?);
     }
     let bytes = bytes_of(alloc, word)?;
     match read_message(alloc, bytes.as_slice()) {
@@ -60,26 +53,33 @@ fn answer(alloc: Global, assembler: &mut Assembler, word: &str) -> Result<String
             Ok(fed) => fed_line(alloc, &fed),
             Err(error) => refusal_line(alloc, error),
         },
-        Err(_) => format!(in alloc; "no message"),
+        Err(_) => Ok(format!(in alloc; "no message")?),
     }
 }
 
 /// What the last word of a line is answered.
-fn last_answer(alloc: Global, line: &str) -> Result<String, AllocError> {
+fn last_answer(alloc: Global, line: &str) -> Result<String, OutOfMemory> {
     let mut last = String::new(alloc);
-    let Ok(mut assembler) = assembler(alloc) else {
-        return Ok(last);
-    };
+    let mut assembler = assembler(alloc)?;
     for word in line.split(' ') {
-        last = answer(alloc, &mut assembler, word)?;
+        last = fed(alloc, &mut assembler, word)?;
     }
     Ok(last)
 }
 
-fn main(rt: HostRuntime) -> io::Result<()> {
-    for line in rt.lines(rt.alloc()) {
-        let line = line?;
-        println!(rt; "{}", last_answer(rt.alloc(), line.as_str())?)?;
+#[derive(Drop)]
+struct StreamCases;
+
+impl Answers for StreamCases {
+    fn answer(&mut self, alloc: Global, line: &str) -> Result<Option<String>, OutOfMemory> {
+        let (word, rest) = cut(line, ' ');
+        if word == "relations" {
+            return Ok(Some(relations_line(alloc, rest)?));
+        }
+        Ok(Some(last_answer(alloc, line)?))
     }
-    Ok(())
+}
+
+fn main(rt: HostRuntime) -> io::Result<()> {
+    answer_lines(&rt, &mut StreamCases)
 }

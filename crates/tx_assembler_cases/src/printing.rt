@@ -1,4 +1,5 @@
 //! What is printed of an answer.
+use shape_base::memory::{Duplicate, OutOfMemory};
 use shape_base::row::{Change, ChangeKind, Row, TableDef, Tx, Value};
 use std::alloc::{AllocError, Global};
 use tx_assembler::{AssembleError, Fed};
@@ -71,33 +72,35 @@ fn tx_line(alloc: Global, tx: &Tx) -> Result<String, AllocError> {
     Ok(line)
 }
 
-pub fn fed_line(alloc: Global, fed: &Fed) -> Result<String, AllocError> {
+/// The answer to a message; of a transaction a copy is printed.
+pub fn fed_line(alloc: Global, fed: &Fed) -> Result<String, OutOfMemory> {
     match fed {
-        Fed::Nothing => format!(in alloc; "nothing"),
-        Fed::Tx(tx) => tx_line(alloc, tx),
-        Fed::Repeat { lsn, last } => format!(in alloc; "repeat {lsn} last {last}"),
+        Fed::Nothing => Ok(format!(in alloc; "nothing")?),
+        Fed::Tx(tx) => Ok(tx_line(alloc, &tx.copy(alloc)?)?),
+        Fed::Repeat { lsn, last } => Ok(format!(in alloc; "repeat {lsn} last {last}")?),
     }
 }
 
-pub fn refusal_line(alloc: Global, error: AssembleError) -> Result<String, AllocError> {
+/// A refusal, with its numbers.
+pub fn refusal_line(alloc: Global, error: AssembleError) -> Result<String, OutOfMemory> {
     match error {
         AssembleError::OutOfOrder { have, got } => {
-            format!(in alloc; "out_of_order {have} {got}")
+            Ok(format!(in alloc; "out_of_order {have} {got}")?)
         }
         AssembleError::LsnMismatch { begin, commit } => {
-            format!(in alloc; "lsn_mismatch {begin} {commit}")
+            Ok(format!(in alloc; "lsn_mismatch {begin} {commit}")?)
         }
-        AssembleError::UnknownRelation { oid } => format!(in alloc; "unknown_relation {oid}"),
-        AssembleError::NoOldRow { oid } => format!(in alloc; "no_old_row {oid}"),
+        AssembleError::UnknownRelation { oid } => Ok(format!(in alloc; "unknown_relation {oid}")?),
+        AssembleError::NoOldRow { oid } => Ok(format!(in alloc; "no_old_row {oid}")?),
         AssembleError::WrongWidth { have, want } => {
-            format!(in alloc; "wrong_width {have} {want}")
+            Ok(format!(in alloc; "wrong_width {have} {want}")?)
         }
-        AssembleError::BinaryColumn { column } => format!(in alloc; "binary_column {column}"),
-        AssembleError::UnsentValue { column } => format!(in alloc; "unsent_value {column}"),
-        AssembleError::NotUtf8 { place } => format!(in alloc; "not_utf8 {place}"),
+        AssembleError::BinaryColumn { column } => Ok(format!(in alloc; "binary_column {column}")?),
+        AssembleError::UnsentValue { column } => Ok(format!(in alloc; "unsent_value {column}")?),
+        AssembleError::NotUtf8 { place } => Ok(format!(in alloc; "not_utf8 {place}")?),
         AssembleError::TxTooLarge { bytes, limit } => {
-            format!(in alloc; "tx_too_large {bytes} {limit}")
+            Ok(format!(in alloc; "tx_too_large {bytes} {limit}")?)
         }
-        AssembleError::OutOfMemory => format!(in alloc; "out_of_memory"),
+        AssembleError::OutOfMemory => Err(OutOfMemory),
     }
 }
