@@ -32,12 +32,7 @@ use std::thread::Threads;
 const MOST: u64 = 1 << 24;
 
 /// The length of the list, and whether each thread's numbers stand in their order.
-fn order_line(
-    alloc: Global,
-    items: &[u64],
-    threads: u64,
-    each: u64,
-) -> Result<String, AllocError> {
+fn order_line(alloc: Global, items: &[u64], threads: u64, each: u64) -> Result<String, AllocError> {
     let length = items.len();
     if is_in_order(alloc, items, threads, each)? {
         format!(in alloc; "{length} in order")
@@ -57,7 +52,9 @@ fn taken_line<R: Wait>(rt: &R, alloc: Global, number: u64) -> Result<String, All
     drop(held);
     match lock.close(other) {
         Ok(_) => format!(in alloc; "{length} and not taken"),
-        Err(Taken { ticket, serving }) => format!(in alloc; "{length} ticket {ticket} serving {serving}"),
+        Err(Taken { ticket, serving }) => format!(in alloc;
+            "{length} ticket {ticket} serving {serving}"
+        ),
     }
 }
 
@@ -73,8 +70,18 @@ fn answer<R: Threads + Wait + Sync>(
     match word {
         "lock" => format!(in alloc; "{}", added_by_four(rt, alloc, number)?.len()),
         "mutex" => format!(in alloc; "{}", added_under_mutex(rt, alloc, number)?.len()),
-        "four" => order_line(alloc, added_by_four(rt, alloc, number)?.as_slice(), 4, number),
-        "eight" => order_line(alloc, added_by_eight(rt, alloc, number)?.as_slice(), 8, number),
+        "four" => order_line(
+            alloc,
+            added_by_four(rt, alloc, number)?.as_slice(),
+            4,
+            number,
+        ),
+        "eight" => order_line(
+            alloc,
+            added_by_eight(rt, alloc, number)?.as_slice(),
+            8,
+            number,
+        ),
         "race" => order_line(alloc, raced(rt, alloc, number)?.as_slice(), 2, 2 * number),
         "taken" => taken_line(rt, alloc, number),
         _ => format!(in alloc; "no such line"),
