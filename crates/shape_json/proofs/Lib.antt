@@ -1,5 +1,6 @@
 pub mod Digits
 pub mod Endings
+pub mod Histories
 pub mod LawProofs
 pub mod Offsets
 pub mod Once

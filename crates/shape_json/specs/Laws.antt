@@ -1,9 +1,11 @@
 -- Laws over the definitions.
-use Rattle.std.specs.Prelude.{◌≡◌, ℕ, ◌+◌, List, ◌∷◌, ◌++◌, length, map, take, drop, true, false, is_some}
+use Rattle.std.specs.Prelude.{◌≡◌, ℕ, ◌+◌, List, [], ◌∷◌, ◌++◌, None, Some, length, map, take, drop, true, false, is_some, if◌then◌else◌}
 use Rattle.std.specs.List.{sum, list_any}
 use Rattle.shape_base.specs.declared.history.History.{History}
 use Rattle.shape_base.specs.declared.offset.Offset.{Offset}
 use Rattle.shape_base.specs.declared.entry.Entry.{Entry}
+use Rattle.shape_base.specs.declared.change.Tx.{Tx}
+use Rattle.shape_base.specs.declared.limits.Limits.{Limits}
 use Rattle.shape_base.specs.Tables.{Own, commits_of}
 use Rattle.shape_base.specs.Snapshot.{Snapshot, IsHonest, shows_last}
 use Rattle.shape_base.specs.Shape.{Knows, stops}
@@ -14,7 +16,7 @@ use Rattle.shape_json.specs.Body.{inner_text, body_text}
 use Rattle.shape_json.specs.Plain.{ArePlain}
 use Rattle.shape_json.specs.Reading.{HaveOffsets}
 use Rattle.shape_json.specs.Page.{page_of, sizes_of}
-use Rattle.shape_json.specs.ShapeHistory.{Reader, ShapeEvent, taken, log_after, first_stop}
+use Rattle.shape_json.specs.ShapeHistory.{Reader, ShapeEvent, Took, snapshot_in, taken, log_after, or_else, first_stop, entries_in, is_passed, drop_at, drop_of}
 
 -- Bodies of plain entries with one text are one body.
 abbrev pub BodiesTell : Type 0
@@ -41,3 +43,12 @@ StopsHaveCause = (r : Reader) (lsn : ℕ) (cs : List Own) → is_some (first_sto
 -- A page that ends a closed chunk is the same for every later log.
 abbrev pub PageStays : Type 0
 PageStays = (least : ℕ) (log more : List Entry) (o : Offset) → (page_of least log o).up_to_date ≡ false → page_of least (log ++ more) o ≡ page_of least log o
+
+-- With one event more a shape is dropped by an earlier event, or else by this one.
+abbrev pub DropNext : Type 0
+DropNext = (r : Reader) (l : Limits) (events : List ShapeEvent) (event : ShapeEvent) → drop_of r l (events ++ event ∷ []) ≡ or_else (drop_of r l events) (drop_at r l events event)
+
+-- A commit that comes to a ready shape and does not drop it adds nothing to its log, where it is passed over, and else its entries.
+abbrev pub TookAdds : Type 0
+TookAdds = (r : Reader) (l : Limits) (snapshot : Snapshot) (events : List ShapeEvent) (tx : Tx) (others : ℕ) → snapshot_in events ≡ Some snapshot → drop_of r l (events ++ Took tx others ∷ []) ≡ None
+    → log_after r.knows snapshot (events ++ Took tx others ∷ []) ≡ log_after r.knows snapshot events ++ (if is_passed snapshot (taken events) tx then [] else entries_in r.knows tx)

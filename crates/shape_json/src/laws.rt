@@ -1,5 +1,5 @@
 //! The laws over the definitions, each the contract of a function with nothing to do.
-ghost use Rattle.shape_json.specs.Laws.{BodiesTell, SizesAdd, LogIsTaken, LogIsOf, StopsHaveCause, PageStays};
+ghost use Rattle.shape_json.specs.Laws.{BodiesTell, SizesAdd, LogIsTaken, LogIsOf, StopsHaveCause, PageStays, DropNext, TookAdds};
 
 /// Bodies of plain entries with one text have the same entries and the same control. So a body that
 /// was written of plain entries is read back as they are.
@@ -32,4 +32,15 @@ pub fn stops_have_cause()
 /// A page that ends a closed chunk is the same for every later log.
 pub fn page_stays()
     ensures { PageStays }
+{}
+
+/// With one event more a shape is dropped by an earlier event, or else by this one.
+pub fn drop_next()
+    ensures { DropNext }
+{}
+
+/// A commit that comes to a ready shape and does not drop it adds nothing to its log where it is
+/// passed over, and else its entries.
+pub fn took_adds()
+    ensures { TookAdds }
 {}
