@@ -8,8 +8,8 @@ use Rattle.shape_base.specs.declared.row_test.BadValue.{BadValue}
 use Rattle.shape_base.specs.Tables.{Values}
 use Rattle.shape_base.specs.Shape.{IsLeast}
 use Rattle.where_grammar.specs.Tree.{Tree}
-use Rattle.where_parser.specs.declared.parse.ParseError.{ParseError}
-use Rattle.where_parser.specs.declared.parse.ParseError.TheVariants as parsing
+use Rattle.where_parser.specs.declared.parsing.ParseError.{ParseError}
+use Rattle.where_parser.specs.declared.parsing.ParseError.TheVariants as parsing
 use Rattle.where_parser.specs.Whole.{IsTreeOf, IsSyntaxAt, IsDeepAt}
 use Rattle.where_parser.proofs.Parsed.{tree_answer, syntax_answer, deep_answer}
 use Rattle.where_eval.specs.declared.checked.Checked.{Checked}

@@ -4,7 +4,7 @@ ghost use Rattle.shape_base.specs.Tables.{place_of as place_in};
 ghost use Rattle.where_eval.specs.Kinds.{kind_at as kind_in};
 ghost use Rattle.where_eval.specs.Indexed.{place_under, IsIndex};
 
-use pg_values::kind::{Kind, kind_of};
+use pg_values::{Kind, kind_of};
 use shape_base::{Columns, Duplicate, OutOfMemory, Text};
 use std::alloc::Global;
 use std::collections::BTreeMap;

@@ -11,25 +11,25 @@ ghost use Rattle.where_eval.specs.Compiled.{Compiles, AllCompile};
 
 use crate::columns::{Index, kind_at, place_of};
 use crate::constant::Constant;
-use crate::datum::{Datum, read};
 use crate::kinds::{kind_of_list, kind_of_three, kind_of_two};
 use crate::like::pieces;
 use crate::plan::{Plan, Plans};
-use pg_values::kind::Kind;
+use crate::read_value::{ReadValue, read};
+use pg_values::Kind;
 use shape_base::{Duplicate, OutOfMemory, Text};
 use std::alloc::Global;
-use where_parser::expr::{CmpOp, Expr, Exprs, IsTest};
+use where_parser::{CmpOp, Expr, Exprs, IsTest};
 
 /// The constant that a string is under a kind.
 fn constant(alloc: Global, text: &Text, kind: Kind) -> Result<Constant, OutOfMemory>
     ensures { IfOk result (λ constant. scalar_of constant ≡ read_under kind text.now) }
 {
     match read(text, kind) {
-        Datum::Null => Ok(Constant::Null),
-        Datum::Truth(truth) => Ok(Constant::Truth(truth)),
-        Datum::Number(number) => Ok(Constant::Number(number)),
-        Datum::Words(text) => Ok(Constant::Words(text.copy(alloc)?)),
-        Datum::Id(id) => Ok(Constant::Id(id)),
+        ReadValue::Null => Ok(Constant::Null),
+        ReadValue::Truth(truth) => Ok(Constant::Truth(truth)),
+        ReadValue::Number(number) => Ok(Constant::Number(number)),
+        ReadValue::Words(text) => Ok(Constant::Words(text.copy(alloc)?)),
+        ReadValue::Id(id) => Ok(Constant::Id(id)),
     }
 }
 

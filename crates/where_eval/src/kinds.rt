@@ -8,10 +8,9 @@ ghost use Rattle.where_eval.specs.Leaves.{listed};
 ghost use Rattle.where_eval.specs.Kinds.{kind_of_part, kind_in_place, common, or_kind as or_other, is_of_class as of_class, suits as may_stand, is_bad_literal as bad_literal};
 
 use crate::columns::{Index, kind_at, place_of};
-use pg_values::kind::Kind;
-use pg_values::value::has_value;
+use pg_values::{Kind, has_value};
 use shape_base::Text;
-use where_parser::expr::{Expr, Exprs};
+use where_parser::{Expr, Exprs};
 
 /// An OID of a type of this kind.
 pub fn oid_of(kind: Kind) -> u32

@@ -6,7 +6,7 @@ ghost use Rattle.where_eval.specs.Leaves.{leaves as leaves_of, all_leaves, leaf_
 
 use crate::columns::{Index, place_of};
 use shape_base::{OutOfMemory, Text};
-use where_parser::expr::{Expr, Exprs};
+use where_parser::{Expr, Exprs};
 
 /// What a leaf is to a table.
 #[derive(Clone, Copy, Drop)]

@@ -5,8 +5,8 @@ use Rattle.std.proofs.lemmas.Bool.Decides.{nat_tests}
 use Rattle.where_lexer.specs.declared.token.Token.{Token}
 use Rattle.where_lexer.specs.Lexing.{scanned}
 use Rattle.where_parser.specs.declared.expr.Expr as exprs
-use Rattle.where_parser.specs.declared.parse.ParseError.{ParseError}
-use Rattle.where_parser.specs.declared.parse.ParseError.TheVariants as errors
+use Rattle.where_parser.specs.declared.parsing.ParseError.{ParseError}
+use Rattle.where_parser.specs.declared.parsing.ParseError.TheVariants as errors
 use Rattle.ll_rules.specs.Rules.{Answer, Read, Refuse, Syntax, TooDeep}
 use Rattle.where_grammar.specs.Tree.{Tree}
 use Rattle.where_grammar.specs.Clause.{tokens_in, IsClauseText}

@@ -1,6 +1,6 @@
 use Rattle.std.proofs.Common.{◌≡◌, ◌≤◌, ◌<◌, ◌-◌, ℕ, false, length}
 use Rattle.where_eval.specs.Checked.{is_unread}
-use Rattle.where_eval.proofs.truth.first_unread.Given as goal
+use Rattle.where_eval.proofs.row_truth.first_unread.Given as goal
 
 -- no text before this place is unread
 abbrev pub invariant-loop-place : goal.invariant-loop-place

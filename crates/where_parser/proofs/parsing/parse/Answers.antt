@@ -1,5 +1,5 @@
 use Rattle.where_parser.proofs.Parsed.{tree_clause, read_clause, given_syntax, syntax_clause, given_deep, deep_clause}
-use Rattle.where_parser.proofs.parse.parse.Goals as goal
+use Rattle.where_parser.proofs.parsing.parse.Goals as goal
 
 pub returns-clause-tree : goal.returns-clause-tree
 returns-clause-tree c = tree_clause c.args.text.now c.answer.result c.answer.ensures

@@ -6,16 +6,16 @@ ghost use Rattle.where_eval.specs.Faults.{first_of, fault as fault_in, asked};
 ghost use Rattle.where_eval.specs.Passing.{Passes};
 ghost use Rattle.where_eval.specs.Checked.{IsCheck, AreRead, IsKnown};
 
-use crate::asking::{ask_one, fault};
 use crate::checked::Checked;
 use crate::columns::{Index, kind_at};
 use crate::compile::compile;
 use crate::faults::CheckError;
 use crate::leaves::{Leaf, add_leaves, first_unknown};
-use pg_values::kind::Kind;
+use crate::typing::{check_part, fault};
+use pg_values::Kind;
 use shape_base::{Columns, OutOfMemory};
 use std::alloc::Global;
-use where_parser::expr::Expr;
+use where_parser::Expr;
 
 /// A kind for each column: the last one.
 fn no_kinds(alloc: Global, columns: &Index) -> Result<Vec<Kind>, OutOfMemory>
@@ -69,7 +69,7 @@ fn ask(columns: &Index, expr: &Expr) -> Result<(), CheckError>
     ensures { Passes result (first_of (fault_in columns.now 0 (tree_of expr.now) ∷ asked columns.now Boolean 0 (tree_of expr.now ∷ []) ∷ [])) }
 {
     let _ = fault(columns, 0, expr)?;
-    ask_one(columns, Kind::Boolean, 0, expr)
+    check_part(columns, Kind::Boolean, 0, expr)
 }
 
 /// Checks a clause against the columns of a table: whether each name is a column's, and whether types and constants

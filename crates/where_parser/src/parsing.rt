@@ -1,5 +1,6 @@
+//! From a text to its tree.
 ghost use Rattle.std.specs.Prelude.{◌≡◌, ◌-◌, ℕ, length, slice_index_or, IfOk, IsErrOf, MatchResult};
-ghost use Rattle.where_parser.specs.declared.parse.ParseError.TheVariants as errors;
+ghost use Rattle.where_parser.specs.declared.parsing.ParseError.TheVariants as errors;
 ghost use Rattle.where_grammar.specs.Clause.{tokens_in, IsClauseText};
 ghost use Rattle.where_grammar.specs.Meaning.{clause_of};
 ghost use Rattle.where_grammar.specs.Tree.{Tree};
@@ -11,7 +12,7 @@ use super::reading::read;
 use super::stop::Stop;
 use shape_base::{OutOfMemory, Text};
 use std::alloc::Global;
-use where_lexer::lexing::{Lexed, lex};
+use where_lexer::{Lexed, lex};
 
 /// Why a text is no clause; a place is a number of bytes from its start.
 #[derive(Debug, Drop)]
@@ -23,7 +24,7 @@ pub enum ParseError {
 
 impl From<OutOfMemory> for ParseError {
     ghost use Rattle.std.specs.Prelude.{◌≡◌};
-    ghost use Rattle.where_parser.specs.declared.parse.ParseError.TheVariants as errors;
+    ghost use Rattle.where_parser.specs.declared.parsing.ParseError.TheVariants as errors;
 
     ghost from_gives = { λ _ e. e ≡ errors.OutOfMemory };
 

@@ -1,6 +1,6 @@
 use Rattle.std.proofs.Common.{slice_set, ap, ◌∙◌}
 use Rattle.where_eval.proofs.Seeing.{read_column, read_other}
-use Rattle.where_eval.proofs.check.kinds_read.Goals as goal
+use Rattle.where_eval.proofs.checking.kinds_read.Goals as goal
 
 pub loop-leaf-preserved-in-Column : goal.loop-leaf-preserved-in-Column
 loop-leaf-preserved-in-Column c =

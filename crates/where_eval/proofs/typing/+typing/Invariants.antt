@@ -5,7 +5,7 @@ use Rattle.where_parser.specs.View.{trees_of}
 use Rattle.where_eval.specs.Leaves.{listed, next_all}
 use Rattle.where_eval.specs.Faults.{faults, bad_literal}
 use Rattle.where_eval.specs.Passing.{literal_or}
-use Rattle.where_eval.proofs.asking.+asking.Given as goal
+use Rattle.where_eval.proofs.typing.+typing.Given as goal
 
 -- what is left has the same faults, and is no deeper
 abbrev pub invariant-members-loop-left : goal.invariant-members-loop-left

@@ -15,9 +15,9 @@ use crate::faults::CheckError;
 use crate::kinds::{all_suit, is_bad_literal, kind_of_list, kind_of_three, kind_of_two, suits};
 use crate::leaves::stepped;
 use crate::like::is_cut;
-use pg_values::kind::Kind;
+use pg_values::Kind;
 use shape_base::Text;
-use where_parser::expr::{Expr, Exprs, IsTest};
+use where_parser::{Expr, Exprs, IsTest};
 
 /// The fault of a node over parts of this kind: a mismatch where they may not be compared or do not all suit, or else
 /// the string of this number.
@@ -51,7 +51,7 @@ fn both(left: bool, right: bool) -> bool
 }
 
 /// What a node asks of its only part.
-pub fn ask_one(columns: &Index, kind: Kind, number: u32, part: &Expr) -> Result<(), CheckError>
+pub fn check_part(columns: &Index, kind: Kind, number: u32, part: &Expr) -> Result<(), CheckError>
     ensures { Passes result (asked columns.now kind number (tree_of part.now ∷ [])) }
 {
     let all = both(suits(columns, kind, part), true);
@@ -64,9 +64,9 @@ fn ask_by_test(columns: &Index, number: u32, part: &Expr, test: IsTest) -> Resul
 {
     match test {
         IsTest::Null => Ok(()),
-        IsTest::True => ask_one(columns, Kind::Boolean, number, part),
-        IsTest::False => ask_one(columns, Kind::Boolean, number, part),
-        IsTest::Unknown => ask_one(columns, Kind::Boolean, number, part),
+        IsTest::True => check_part(columns, Kind::Boolean, number, part),
+        IsTest::False => check_part(columns, Kind::Boolean, number, part),
+        IsTest::Unknown => check_part(columns, Kind::Boolean, number, part),
     }
 }
 
@@ -207,7 +207,7 @@ fn denied(columns: &Index, number: u32, inner: &Expr) -> Result<u32, CheckError>
     ensures { PassesTo result (fault_in columns.now number (NotOf (tree_of inner.now))) (next_number number (NotOf (tree_of inner.now))) }
 {
     let next = fault(columns, number, inner)?;
-    ask_one(columns, Kind::Boolean, number, inner)?;
+    check_part(columns, Kind::Boolean, number, inner)?;
     Ok(next)
 }
 
@@ -268,7 +268,7 @@ fn like(columns: &Index, number: u32, left: &Expr, pattern: &Text) -> Result<u32
     ensures { PassesTo result (fault_in columns.now number (LikeOf (tree_of left.now) false pattern.now)) (next_number number (LikeOf (tree_of left.now) false pattern.now)) }
 {
     let second = fault(columns, number, left)?;
-    ask_one(columns, Kind::Text, number, left)?;
+    check_part(columns, Kind::Text, number, left)?;
     ask_pattern(second, pattern)?;
     Ok(stepped(second))
 }

@@ -1,6 +1,6 @@
 use Rattle.std.proofs.Common.{length}
 use Rattle.where_eval.proofs.Seeing.{IsReadSoFar}
-use Rattle.where_eval.proofs.check.kinds_read.Given as goal
+use Rattle.where_eval.proofs.checking.kinds_read.Given as goal
 
 -- what is read of the leaves before those that are left
 abbrev pub invariant-loop-leaf : goal.invariant-loop-leaf

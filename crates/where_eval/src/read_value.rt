@@ -6,15 +6,14 @@ ghost use Rattle.where_eval.specs.Scalars.{Number, read_under, read_cell as cell
 
 use crate::like::{Piece, fits};
 use crate::logic::of_bool;
-use pg_values::kind::Kind;
-use pg_values::value::{read_bool, read_int, read_uuid};
+use pg_values::{Kind, read_bool, read_int, read_uuid};
 use shape_base::{Text, Tri, Value};
 use std::cmp::Ordering;
-use where_parser::expr::{CmpOp, IsTest};
+use where_parser::{CmpOp, IsTest};
 
 /// The value of a part. Null is unknown where a truth is asked for.
 #[derive(Clone, Copy)]
-pub enum Datum<'a> {
+pub enum ReadValue<'a> {
     Null,
     Truth(bool),
     Number(i64),
@@ -22,76 +21,76 @@ pub enum Datum<'a> {
     Id(u128),
 }
 
-fn read_number(text: &Text, oid: u32) -> Datum
+fn read_number(text: &Text, oid: u32) -> ReadValue
     requires { IsIntegerKind (kind_under oid) }
     ensures { seen result ≡ (if has_value (kind_under oid) text.now then Some (Number (number_value text.now)) else None) }
 {
     match read_int(text.as_bytes(), oid) {
-        Ok(number) => Datum::Number(number),
-        Err(_) => Datum::Null,
+        Ok(number) => ReadValue::Number(number),
+        Err(_) => ReadValue::Null,
     }
 }
 
 /// The value that a text has under a kind; null where it has none.
-pub fn read(text: &Text, kind: Kind) -> Datum
+pub fn read(text: &Text, kind: Kind) -> ReadValue
     ensures { seen result ≡ read_under kind text.now }
 {
     match kind {
         Kind::Boolean => match read_bool(text.as_bytes()) {
-            Ok(truth) => Datum::Truth(truth),
-            Err(_) => Datum::Null,
+            Ok(truth) => ReadValue::Truth(truth),
+            Err(_) => ReadValue::Null,
         },
         Kind::SmallInt => read_number(text, 21),
         Kind::Integer => read_number(text, 23),
         Kind::BigInt => read_number(text, 20),
         Kind::Uuid => match read_uuid(text.as_bytes()) {
-            Ok(id) => Datum::Id(id),
-            Err(_) => Datum::Null,
+            Ok(id) => ReadValue::Id(id),
+            Err(_) => ReadValue::Null,
         },
-        Kind::Text | Kind::Other => Datum::Words(text),
+        Kind::Text | Kind::Other => ReadValue::Words(text),
     }
 }
 
 /// The value of a row's cell under its column's kind.
-pub fn read_cell(value: &Value, kind: Kind) -> Datum
+pub fn read_cell(value: &Value, kind: Kind) -> ReadValue
     ensures { seen result ≡ cell kind value.now }
 {
     match value {
-        Value::Null => Datum::Null,
+        Value::Null => ReadValue::Null,
         Value::Words(text) => read(text, kind),
     }
 }
 
 /// A null bool is unknown.
-pub fn tri_of(datum: Datum) -> Tri
-    ensures { result ≡ tri_of_scalar (seen datum.entry) }
+pub fn tri_of(value: ReadValue) -> Tri
+    ensures { result ≡ tri_of_scalar (seen value.entry) }
 {
-    match datum {
-        Datum::Truth(truth) => of_bool(truth),
+    match value {
+        ReadValue::Truth(truth) => of_bool(truth),
         _ => Tri::Unknown,
     }
 }
 
 /// Unknown is a null bool.
-pub fn of_tri<'a>(tri: Tri) -> Datum<'a>
+pub fn of_tri<'a>(tri: Tri) -> ReadValue<'a>
     ensures { seen result ≡ scalar_of_tri tri }
 {
     match tri {
-        Tri::True => Datum::Truth(true),
-        Tri::False => Datum::Truth(false),
-        Tri::Unknown => Datum::Null,
+        Tri::True => ReadValue::Truth(true),
+        Tri::False => ReadValue::Truth(false),
+        Tri::Unknown => ReadValue::Null,
     }
 }
 
 /// How two values of one class stand to one another; none where one is null.
-fn order(left: Datum, right: Datum) -> Option<Ordering>
+fn order(left: ReadValue, right: ReadValue) -> Option<Ordering>
     ensures { result ≡ order_between (seen left.entry) (seen right.entry) }
 {
     match (left, right) {
-        (Datum::Truth(a), Datum::Truth(b)) => Some(a.cmp(&b)),
-        (Datum::Number(a), Datum::Number(b)) => Some(a.cmp(&b)),
-        (Datum::Words(a), Datum::Words(b)) => Some(a.cmp(b)),
-        (Datum::Id(a), Datum::Id(b)) => Some(a.cmp(&b)),
+        (ReadValue::Truth(a), ReadValue::Truth(b)) => Some(a.cmp(&b)),
+        (ReadValue::Number(a), ReadValue::Number(b)) => Some(a.cmp(&b)),
+        (ReadValue::Words(a), ReadValue::Words(b)) => Some(a.cmp(b)),
+        (ReadValue::Id(a), ReadValue::Id(b)) => Some(a.cmp(&b)),
         _ => None,
     }
 }
@@ -113,18 +112,18 @@ fn held(op: CmpOp, order: Option<Ordering>) -> Tri
 }
 
 /// A comparison; unknown where one value is null.
-pub fn compared(op: CmpOp, left: Datum, right: Datum) -> Tri
+pub fn compared(op: CmpOp, left: ReadValue, right: ReadValue) -> Tri
     ensures { result ≡ compared_scalars op (seen left.entry) (seen right.entry) }
 {
     held(op, order(left, right))
 }
 
 /// Whether two values are distinct; two nulls are not.
-pub fn is_distinct(left: Datum, right: Datum) -> bool
+pub fn is_distinct(left: ReadValue, right: ReadValue) -> bool
     ensures { result ≡ are_distinct (seen left.entry) (seen right.entry) }
 {
     match (left, right) {
-        (Datum::Null, Datum::Null) => false,
+        (ReadValue::Null, ReadValue::Null) => false,
         _ => match order(left, right) {
             Some(order) => order.is_ne(),
             None => true,
@@ -133,24 +132,24 @@ pub fn is_distinct(left: Datum, right: Datum) -> bool
 }
 
 /// IS NULL, IS TRUE, IS FALSE, IS UNKNOWN.
-pub fn passes(test: IsTest, datum: Datum) -> bool
-    ensures { result ≡ passes_test test (seen datum.entry) }
+pub fn passes(test: IsTest, value: ReadValue) -> bool
+    ensures { result ≡ passes_test test (seen value.entry) }
 {
-    match (test, datum) {
-        (IsTest::Null, Datum::Null) => true,
+    match (test, value) {
+        (IsTest::Null, ReadValue::Null) => true,
         (IsTest::Null, _) => false,
-        (IsTest::True, _) => matches!(tri_of(datum), Tri::True),
-        (IsTest::False, _) => matches!(tri_of(datum), Tri::False),
-        (IsTest::Unknown, _) => matches!(tri_of(datum), Tri::Unknown),
+        (IsTest::True, _) => matches!(tri_of(value), Tri::True),
+        (IsTest::False, _) => matches!(tri_of(value), Tri::False),
+        (IsTest::Unknown, _) => matches!(tri_of(value), Tri::Unknown),
     }
 }
 
 /// LIKE; unknown where the left side is null.
-pub fn like(pieces: &[Piece], left: Datum) -> Tri
+pub fn like(pieces: &[Piece], left: ReadValue) -> Tri
     ensures { result ≡ fits_scalar pieces.now (seen left.entry) }
 {
     match left {
-        Datum::Words(text) => of_bool(fits(pieces, text.as_str())),
+        ReadValue::Words(text) => of_bool(fits(pieces, text.as_str())),
         _ => Tri::Unknown,
     }
 }

@@ -1,7 +1,7 @@
 use Rattle.std.proofs.Common.{ap, ◌∙◌}
 use Rattle.where_eval.specs.Scalars.{tri_of}
 use Rattle.where_eval.proofs.Seeing.{all_read_in, one_unread_in}
-use Rattle.where_eval.proofs.truth.truth.Goals as goal
+use Rattle.where_eval.proofs.row_truth.truth.Goals as goal
 
 pub returns-in-Some : goal.returns-in-Some
 returns-in-Some c = λ columns tree k.

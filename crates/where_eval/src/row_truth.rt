@@ -8,11 +8,10 @@ ghost use Rattle.where_eval.specs.Truth.{is_unreadable as cannot_be_read};
 ghost use Rattle.where_eval.specs.Checked.{width, is_unread, IsChecked, IsTruth};
 
 use crate::checked::Checked;
-use crate::datum::tri_of;
 use crate::eval::value;
 use crate::kinds::oid_of;
-use pg_values::kind::Kind;
-use pg_values::value::has_value;
+use crate::read_value::tri_of;
+use pg_values::{Kind, has_value};
 use shape_base::{BadValue, Row, Tri, Value};
 
 fn is_unreadable(kind: Kind, value: &Value) -> bool
