@@ -1,6 +1,6 @@
 //! From a tree to its canonical text.
 
-#![tactic(auto, using(where_lexer::proofs::Writes::written_append, where_lexer::proofs::Writes::written_first, where_lexer::proofs::Writes::written_none))]
+#![tactic(auto, using(where_lexer::proofs::Lemmas::written_append, where_lexer::proofs::Lemmas::written_first, where_lexer::proofs::Lemmas::written_none))]
 
 ghost use Rattle.std.specs.Prelude.{◌≡◌, ◌∷◌, [], ◌++◌, IfOk, OnOk};
 ghost use Rattle.where_lexer.specs.declared.token.Token.TheVariants as tokens;
