@@ -7,18 +7,19 @@ ghost use Rattle.where_eval.specs.Passing.{Passes};
 ghost use Rattle.where_eval.specs.Checked.{IsCheck, AreRead, IsKnown};
 
 use crate::checked::Checked;
-use crate::columns::{Index, kind_at};
+use crate::columns::kind_at;
 use crate::compile::compile;
 use crate::faults::CheckError;
 use crate::leaves::{Leaf, add_leaves, first_unknown};
 use crate::typing::{check_part, fault};
+use column_names::ColumnNames;
 use pg_values::Kind;
 use shape_base::{Columns, OutOfMemory};
 use std::alloc::Global;
 use where_parser::Expr;
 
 /// A kind for each column: the last one.
-fn no_kinds(alloc: Global, columns: &Index) -> Result<Vec<Kind>, OutOfMemory>
+fn no_kinds(alloc: Global, columns: &ColumnNames) -> Result<Vec<Kind>, OutOfMemory>
     ensures { IfOk result (λ kinds. AreRead columns.now [] kinds.items) }
 {
     let mut kinds = Vec::new(alloc);
@@ -38,7 +39,11 @@ fn put_kind(kinds: &mut Vec<Kind>, place: u64, kind: Kind)
 }
 
 /// For each column the kind under which a leaf reads it.
-fn kinds_read(alloc: Global, columns: &Index, leaves: &[Leaf]) -> Result<Vec<Kind>, OutOfMemory>
+fn kinds_read(
+    alloc: Global,
+    columns: &ColumnNames,
+    leaves: &[Leaf],
+) -> Result<Vec<Kind>, OutOfMemory>
     ensures { IfOk result (λ kinds. AreRead columns.now leaves.now kinds.items) }
 {
     let mut kinds = no_kinds(alloc, columns)?;
@@ -53,7 +58,7 @@ fn kinds_read(alloc: Global, columns: &Index, leaves: &[Leaf]) -> Result<Vec<Kin
 }
 
 /// The leaves of a clause each name of which is a column's.
-fn known_leaves(alloc: Global, columns: &Index, expr: &Expr) -> Result<Vec<Leaf>, CheckError>
+fn known_leaves(alloc: Global, columns: &ColumnNames, expr: &Expr) -> Result<Vec<Leaf>, CheckError>
     ensures { IsKnown (λ leaves. leaves.items) columns.now (tree_of expr.now) result }
 {
     let mut leaves = Vec::new(alloc);
@@ -65,7 +70,7 @@ fn known_leaves(alloc: Global, columns: &Index, expr: &Expr) -> Result<Vec<Leaf>
 }
 
 /// Looks for the first faulty node, and then asks that the whole is bool.
-fn ask(columns: &Index, expr: &Expr) -> Result<(), CheckError>
+fn ask(columns: &ColumnNames, expr: &Expr) -> Result<(), CheckError>
     ensures { Passes result (first_of (fault_in columns.now 0 (tree_of expr.now) ∷ asked columns.now Boolean 0 (tree_of expr.now ∷ []) ∷ [])) }
 {
     let _ = fault(columns, 0, expr)?;
@@ -78,7 +83,7 @@ fn ask(columns: &Index, expr: &Expr) -> Result<(), CheckError>
 pub fn check(alloc: Global, expr: &Expr, columns: &Columns) -> Result<Checked, CheckError>
     ensures { IsCheck columns.now (tree_of expr.now) result }
 {
-    let index = Index::new(alloc, columns)?;
+    let index = ColumnNames::new(alloc, columns)?;
     let leaves = known_leaves(alloc, &index, expr)?;
     ask(&index, expr)?;
     if columns.len() > 0x1_0000_0000 {

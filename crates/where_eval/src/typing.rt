@@ -10,11 +10,11 @@ ghost use Rattle.where_eval.specs.MemberFaults.{AreMembers};
 ghost use Rattle.where_eval.specs.Passing.{Passes, PassesTo, literal_at, literal_or, literal_if};
 ghost use Rattle.where_eval.specs.declared.faults.CheckError.{CheckError};
 
-use crate::columns::Index;
 use crate::faults::CheckError;
 use crate::kinds::{all_suit, is_bad_literal, kind_of_list, kind_of_three, kind_of_two, suits};
 use crate::leaves::stepped;
 use crate::like::is_cut;
+use column_names::ColumnNames;
 use pg_values::Kind;
 use shape_base::Text;
 use where_parser::{Expr, Exprs, IsTest};
@@ -51,7 +51,12 @@ fn both(left: bool, right: bool) -> bool
 }
 
 /// What a node asks of its only part.
-pub fn check_part(columns: &Index, kind: Kind, number: u32, part: &Expr) -> Result<(), CheckError>
+pub fn check_part(
+    columns: &ColumnNames,
+    kind: Kind,
+    number: u32,
+    part: &Expr,
+) -> Result<(), CheckError>
     ensures { Passes result (asked columns.now kind number (tree_of part.now ∷ [])) }
 {
     let all = both(suits(columns, kind, part), true);
@@ -59,7 +64,12 @@ pub fn check_part(columns: &Index, kind: Kind, number: u32, part: &Expr) -> Resu
 }
 
 /// What a test asks of its operand.
-fn ask_by_test(columns: &Index, number: u32, part: &Expr, test: IsTest) -> Result<(), CheckError>
+fn ask_by_test(
+    columns: &ColumnNames,
+    number: u32,
+    part: &Expr,
+    test: IsTest,
+) -> Result<(), CheckError>
     ensures { Passes result (asked_by_test columns.now number (tree_of part.now) test) }
 {
     match test {
@@ -72,7 +82,7 @@ fn ask_by_test(columns: &Index, number: u32, part: &Expr, test: IsTest) -> Resul
 
 /// What a comparison asks of its sides, the second of which begins at the leaf `second`.
 fn ask_two(
-    columns: &Index,
+    columns: &ColumnNames,
     number: u32,
     left: &Expr,
     second: u32,
@@ -90,7 +100,7 @@ fn ask_two(
 
 /// What BETWEEN asks of its parts.
 fn ask_three(
-    columns: &Index,
+    columns: &ColumnNames,
     number: u32,
     left: &Expr,
     second: u32,
@@ -113,7 +123,7 @@ fn ask_three(
 
 /// What OR and AND ask of their members, of which `bad` is the first string without a value.
 fn ask_truths(
-    columns: &Index,
+    columns: &ColumnNames,
     number: u32,
     list: &Exprs,
     bad: Option<u32>,
@@ -127,7 +137,7 @@ fn ask_truths(
 
 /// What IN asks of its parts, where `bad` is the first string of the list without a value.
 fn ask_list(
-    columns: &Index,
+    columns: &ColumnNames,
     number: u32,
     left: &Expr,
     list: &Exprs,
@@ -173,8 +183,13 @@ fn first_bad(bad: Option<u32>, is_bad: bool, number: u32) -> Option<u32>
 }
 
 /// Looks for faulty nodes in the members of a list.
-#[cycle(asking)]
-fn members(columns: &Index, kind: Kind, number: u32, list: &Exprs) -> Result<Clean, CheckError>
+#[cycle(typing)]
+fn members(
+    columns: &ColumnNames,
+    kind: Kind,
+    number: u32,
+    list: &Exprs,
+) -> Result<Clean, CheckError>
     ensures { AreMembers result columns.now kind number (trees_of list.now) }
 {
     let mut next = number;
@@ -192,8 +207,8 @@ fn members(columns: &Index, kind: Kind, number: u32, list: &Exprs) -> Result<Cle
 }
 
 /// The members of OR or AND.
-#[cycle(asking)]
-fn truths(columns: &Index, number: u32, list: &Exprs) -> Result<u32, CheckError>
+#[cycle(typing)]
+fn truths(columns: &ColumnNames, number: u32, list: &Exprs) -> Result<u32, CheckError>
     ensures { PassesTo result (first_of (faults_in columns.now number (trees_of list.now) ∷ asked columns.now Boolean number (listed (trees_of list.now)) ∷ [])) (next_all number (trees_of list.now)) }
 {
     let found = members(columns, Kind::Boolean, number, list)?;
@@ -202,8 +217,8 @@ fn truths(columns: &Index, number: u32, list: &Exprs) -> Result<u32, CheckError>
 }
 
 /// The operand of NOT.
-#[cycle(asking)]
-fn denied(columns: &Index, number: u32, inner: &Expr) -> Result<u32, CheckError>
+#[cycle(typing)]
+fn denied(columns: &ColumnNames, number: u32, inner: &Expr) -> Result<u32, CheckError>
     ensures { PassesTo result (fault_in columns.now number (NotOf (tree_of inner.now))) (next_number number (NotOf (tree_of inner.now))) }
 {
     let next = fault(columns, number, inner)?;
@@ -212,8 +227,8 @@ fn denied(columns: &Index, number: u32, inner: &Expr) -> Result<u32, CheckError>
 }
 
 /// The operand of a test with IS and with IS NOT.
-#[cycle(asking)]
-fn tested(columns: &Index, number: u32, left: &Expr, test: IsTest) -> Result<u32, CheckError>
+#[cycle(typing)]
+fn tested(columns: &ColumnNames, number: u32, left: &Expr, test: IsTest) -> Result<u32, CheckError>
     ensures { PassesTo result (fault_in columns.now number (IsOf (tree_of left.now) false test)) (next_number number (IsOf (tree_of left.now) false test)) }
 {
     let next = fault(columns, number, left)?;
@@ -222,8 +237,8 @@ fn tested(columns: &Index, number: u32, left: &Expr, test: IsTest) -> Result<u32
 }
 
 /// The sides of a comparison, or of IS DISTINCT FROM, which asks the same of them.
-#[cycle(asking)]
-fn sides(columns: &Index, number: u32, left: &Expr, right: &Expr) -> Result<u32, CheckError>
+#[cycle(typing)]
+fn sides(columns: &ColumnNames, number: u32, left: &Expr, right: &Expr) -> Result<u32, CheckError>
     ensures { PassesTo result (fault_in columns.now number (DistinctOf (tree_of left.now) false (tree_of right.now))) (next_number number (DistinctOf (tree_of left.now) false (tree_of right.now))) }
 {
     let second = fault(columns, number, left)?;
@@ -233,8 +248,8 @@ fn sides(columns: &Index, number: u32, left: &Expr, right: &Expr) -> Result<u32,
 }
 
 /// The left side and the list of IN and of NOT IN.
-#[cycle(asking)]
-fn within(columns: &Index, number: u32, left: &Expr, list: &Exprs) -> Result<u32, CheckError>
+#[cycle(typing)]
+fn within(columns: &ColumnNames, number: u32, left: &Expr, list: &Exprs) -> Result<u32, CheckError>
     ensures { PassesTo result (fault_in columns.now number (WithinOf (tree_of left.now) false (trees_of list.now))) (next_number number (WithinOf (tree_of left.now) false (trees_of list.now))) }
 {
     let second = fault(columns, number, left)?;
@@ -245,9 +260,9 @@ fn within(columns: &Index, number: u32, left: &Expr, list: &Exprs) -> Result<u32
 }
 
 /// The parts of BETWEEN and of NOT BETWEEN.
-#[cycle(asking)]
+#[cycle(typing)]
 fn between(
-    columns: &Index,
+    columns: &ColumnNames,
     number: u32,
     left: &Expr,
     low: &Expr,
@@ -263,8 +278,8 @@ fn between(
 }
 
 /// The left side of LIKE and of NOT LIKE, and the pattern, which is a leaf.
-#[cycle(asking)]
-fn like(columns: &Index, number: u32, left: &Expr, pattern: &Text) -> Result<u32, CheckError>
+#[cycle(typing)]
+fn like(columns: &ColumnNames, number: u32, left: &Expr, pattern: &Text) -> Result<u32, CheckError>
     ensures { PassesTo result (fault_in columns.now number (LikeOf (tree_of left.now) false pattern.now)) (next_number number (LikeOf (tree_of left.now) false pattern.now)) }
 {
     let second = fault(columns, number, left)?;
@@ -275,8 +290,8 @@ fn like(columns: &Index, number: u32, left: &Expr, pattern: &Text) -> Result<u32
 
 /// Looks for the first faulty node of a tree whose first leaf has this number, parts before the whole and left to
 /// right, and answers the number of the leaf behind the tree.
-#[cycle(asking)]
-pub fn fault(columns: &Index, number: u32, expr: &Expr) -> Result<u32, CheckError>
+#[cycle(typing)]
+pub fn fault(columns: &ColumnNames, number: u32, expr: &Expr) -> Result<u32, CheckError>
     ensures { PassesTo result (fault_in columns.now number (tree_of expr.now)) (next_number number (tree_of expr.now)) }
 {
     match expr {
