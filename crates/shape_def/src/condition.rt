@@ -111,7 +111,7 @@ impl Condition {
     {
         match &self.checked {
             None => Ok(Tri::True),
-            Some(checked) => where_eval::truth::truth(checked.as_ref(), row),
+            Some(checked) => where_eval::truth(checked.as_ref(), row),
         }
     }
 }
