@@ -1,9 +1,8 @@
 -- The page of a log after an offset: the part of it that one reply carries.
 use Rattle.std.specs.Prelude.{ℕ, ◌+◌, ◌-◌, nat_lt, Bool, true, false, if◌then◌else◌, List, [], ◌∷◌, length, map, take, Option, None, Some}
 use Rattle.shape_base.specs.declared.offset.Offset.{Offset}
-use Rattle.shape_base.specs.declared.offset.Offset.TheVariants.{Start, At}
 use Rattle.shape_base.specs.declared.entry.Entry.{Entry}
-use Rattle.shape_base.specs.Offsets.{upto, past}
+use Rattle.shape_base.specs.Offsets.{upto, past, end_from}
 use Rattle.shape_base.specs.Log.{last_offset}
 use Rattle.shape_base.specs.Chunks.{closed_chunks}
 use Rattle.shape_json.specs.Body.{entry_text}
@@ -26,11 +25,6 @@ pub record Part : Type 0 where
   pub entries : List Entry
   pub end : Offset
   pub up_to_date : Bool
-
--- the offset that was asked for, as an end: `0_0` in the place of the start
-abbrev pub end_from : Offset → Offset
-end_from Start = At 0 0
-end_from (At lsn pos) = At lsn pos
 
 -- entries past an offset, which end at the last of them
 abbrev pub part : Offset → List Entry → Bool → Part
