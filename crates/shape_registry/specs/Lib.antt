@@ -1,2 +1,4 @@
 pub mod State
 pub mod Entries
+pub mod ByHistory
+pub mod Registry

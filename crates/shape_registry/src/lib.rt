@@ -4,7 +4,10 @@
 mod found;
 mod handles;
 mod refusal;
+mod registry;
 mod standing;
 
 pub use found::Found;
+pub use refusal::RegisterError;
+pub use registry::Registry;
 pub use standing::Standing;
