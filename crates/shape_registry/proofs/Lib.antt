@@ -4,3 +4,5 @@ pub mod Growing
 pub mod Legal
 pub mod Following
 pub mod Meanings
+pub mod Laws
+pub mod KeptValues

@@ -299,6 +299,14 @@ impl Handles {
         Ok(numbers)
     }
 
+    /// The next number.
+    pub fn next(&self) -> u64
+        requires { self.now.given < 2 ^ 64 - 1 }
+        ensures { result ≡ self.now.given + 1 }
+    {
+        self.given + 1
+    }
+
     /// Gives the next number.
     pub fn register(
         &mut self,

@@ -128,4 +128,126 @@ impl<K> Registry<K> {
     {
         self.values.get(&number)
     }
+
+    /// Notes a transaction that was taken, and gives the live numbers, rising.
+    pub fn take(&mut self, alloc: Global, lsn: u64, xid: u32) -> Result<Numbers, OutOfMemory>
+        requires { lsn_in self.old.state < lsn }
+        ensures ok { IfOk result (λ numbers. (numbers ≡ map (λ l. l.number) self.old.state.live) × (self.new.state ≡ after self.old.state (events.Took lsn xid))) }
+        ensures numbers { IfOk result (λ numbers. ByHistory self.old.state (λ start es. numbers ≡ live_numbers es)) }
+        ensures took { OnOk result (Adds self.old.state (events.Took lsn xid) self.new.state) }
+        ensures kept { self.new.kept ≡ self.old.kept }
+        ensures err { OnErr result (self.new ≡ self.old) }
+    {
+        self.handles.take(alloc, lsn, xid)
+    }
+
+    /// The table that the definition names has this definition from now on.
+    pub fn redefine(&mut self, definition: TableDef)
+        requires { definition.table < length self.old.state.catalog }
+        ensures state { self.new.state ≡ after self.old.state (events.Redefined definition) }
+        ensures redefined { Adds self.old.state (events.Redefined definition) self.new.state }
+        ensures kept { self.new.kept ≡ self.old.kept }
+    {
+        self.handles.redefine(definition);
+    }
+
+    /// A starting number becomes ready.
+    pub fn ready(&mut self, number: u64)
+        requires { standing_in self.old.state number ≡ standings.Starting }
+        ensures state { self.new.state ≡ after self.old.state (events.Ready number) }
+        ensures ready { Adds self.old.state (events.Ready number) self.new.state }
+        ensures kept { self.new.kept ≡ self.old.kept }
+    {
+        self.handles.ready(number);
+    }
+}
+
+/// A refusal with the value that was to be kept.
+fn refused<K>(refusal: Refusal, kept: K) -> RegisterError<K>
+    ensures { IsRefused (Some refusal) kept result }
+{
+    match refusal {
+        Refusal::Exists { number } => RegisterError::Exists { number, kept },
+        Refusal::TooMany { live, limit } => RegisterError::TooMany { live, limit, kept },
+        Refusal::NumbersSpent => RegisterError::NumbersSpent { kept },
+    }
+}
+
+impl<K: Drop> Registry<K> {
+    /// Gives the next number to an identity that is not refused.
+    fn put(
+        &mut self,
+        alloc: Global,
+        identity: Text,
+        table: u32,
+        kept: K,
+    ) -> Result<u64, RegisterError<K>>
+        requires { refusal_in self.old.state identity ≡ None }
+        ensures state { IfOk result (λ number. (number ≡ self.old.state.given + 1) × (self.new.state ≡ after self.old.state (events.Registered number identity table (id_in self.old.state)))) }
+        ensures kept { IfOk result (λ number. self.new.kept ≡ fin.insert self.old.kept number kept) }
+        ensures refused { IfErr result (IsRefused None kept) }
+        ensures unchanged { OnErr result (self.new ≡ self.old) }
+    {
+        let number = self.handles.next();
+        let before = match self.values.insert(number, kept) {
+            Ok(before) => before,
+            Err(failed) => {
+                let (_, kept) = failed.value;
+                return Err(RegisterError::OutOfMemory { kept });
+            }
+        };
+        let _none = before;
+        match self.handles.register(alloc, identity, table) {
+            Ok(number) => Ok(number),
+            Err(_) => match self.values.remove(&number) {
+                Some(kept) => Err(RegisterError::OutOfMemory { kept }),
+                None => unreachable!(),
+            },
+        }
+    }
+
+    /// Gives the next number to an identity, and keeps a value for it. Numbers rise by one from 1, and none is given
+    /// twice.
+    ///
+    /// `Exists` comes exactly where the identity is live; otherwise `TooMany` exactly where as many handles are live as
+    /// may be; otherwise `NumbersSpent` exactly where 2^64 - 1 was given. After a refusal the registry is unchanged, and
+    /// the error has the value.
+    pub fn register(
+        &mut self,
+        alloc: Global,
+        identity: Text,
+        table: u32,
+        kept: K,
+    ) -> Result<u64, RegisterError<K>>
+        requires { table < length self.old.state.catalog }
+        ensures accepted { OnOk result (refusal_in self.old.state identity ≡ None) }
+        ensures state { IfOk result (λ number. (number ≡ self.old.state.given + 1) × (self.new.state ≡ after self.old.state (events.Registered number identity table (id_in self.old.state)))) }
+        ensures registered { IfOk result (λ number. Adds self.old.state (events.Registered number identity table (id_in self.old.state)) self.new.state) }
+        ensures kept { IfOk result (λ number. self.new.kept ≡ fin.insert self.old.kept number kept) }
+        ensures refused { IfErr result (IsRefused (refusal_in self.old.state identity) kept) }
+        ensures refused_by_history { IfErr result (λ e. ByHistory self.old.state (λ start es. IsRefused (refusal_after start.limit es identity) kept e)) }
+        ensures unchanged { OnErr result (self.new ≡ self.old) }
+    {
+        if let Some(refusal) = self.handles.refusal(&identity) {
+            return Err(refused(refusal, kept));
+        }
+        self.put(alloc, identity, table, kept)
+    }
+
+    /// Removes a live number, and gives the value that was kept for it. `None` exactly where the number is not live; the
+    /// registry is then unchanged.
+    pub fn remove(&mut self, number: u64, cause: Cause) -> Option<K>
+        ensures back { result ≡ fin.get self.old.kept number }
+        ensures live { is_some result ≡ is_some (live_at self.old.state number) }
+        ensures by_history { ByHistory self.old.state (λ start es. is_some result ≡ is_live es number) }
+        ensures state { OnSome result (self.new.state ≡ after self.old.state (events.Removed number cause)) }
+        ensures removed { OnSome result (Adds self.old.state (events.Removed number cause) self.new.state) }
+        ensures kept { self.new.kept ≡ fin.remove self.old.kept number }
+        ensures unchanged { IfNone result (self.new ≡ self.old) }
+    {
+        let _ = cause;
+        let kept = self.values.remove(&number)?;
+        self.handles.remove(number);
+        Some(kept)
+    }
 }
