@@ -5,6 +5,7 @@ pub mod OffsetText
 pub mod Offsets
 pub mod Outside
 pub mod Tables
+pub mod Transactions
 pub mod GoodSteps
 pub mod Visibility
 pub mod Snapshot

@@ -1,7 +1,7 @@
 //! What happens to a registry of handles.
 
 use super::cause::Cause;
-use super::row::TableDef;
+use super::definition::TableDef;
 use super::text::Text;
 
 /// One change of a registry. `specs/RegistryHistory.antt` says when a list of them is legal, and what it leaves.

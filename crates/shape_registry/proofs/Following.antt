@@ -8,11 +8,11 @@ use Rattle.std.proofs.lemmas.List.Sums.{fold-append}
 use Rattle.std.proofs.lemmas.Bool.Decides.{Decides-eqb}
 use Rattle.shape_base.specs.Tables.{same_text}
 use Rattle.shape_base.specs.declared.cause.Cause.{Cause}
-use Rattle.shape_base.specs.declared.row.TableDef.{TableDef}
+use Rattle.shape_base.specs.declared.definition.TableDef.{TableDef}
 use Rattle.shape_base.specs.declared.registry_event.RegistryEvent.{RegistryEvent}
 use Rattle.shape_base.specs.declared.registry_event.RegistryEvent.TheVariants.{Registered, Ready, Removed, Took, Redefined}
 use Rattle.shape_base.specs.RegistryHistory.{RegistryStart, Registration, Removal, Taken, registrations, registration_in, removals, removal_in, made_ready, ready_in, transactions, transaction_in, redefinitions, definition_in, was_registered, was_removed, had_ready, events_before, taken_before, live_registrations, last_taken, redefined, catalog_after, MayRegister, MayFollow, IsLegal, LiveHandle, RegistryState, live_handle, state_after, Stands}
-use Rattle.shape_base.proofs.RegistryLaws.{legal_next}
+use Rattle.shape_base.proofs.Lemmas.{legal_next}
 use Rattle.shape_registry.specs.State.{after, with_ready}
 use Rattle.shape_registry.proofs.Growing.{each_of_filter, map_each, each_from, filter_of_map, each_among, part_stays, part_grows, any_more, before_stays, before_new}
 use Rattle.shape_registry.proofs.Legal.{Facts, facts_of, live_stays, removed_stays, ready_stays, live_without, new_number, live_grows, grows}

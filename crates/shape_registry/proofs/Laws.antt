@@ -4,7 +4,7 @@ use Rattle.std.specs.Prelude.{is_some, length}
 use Rattle.std.specs.Option.{option_map}
 use Rattle.shape_base.specs.declared.ask.Named.{Named}
 use Rattle.shape_base.specs.declared.cause.Cause.{Cause}
-use Rattle.shape_base.specs.declared.row.TableDef.{TableDef}
+use Rattle.shape_base.specs.declared.definition.TableDef.{TableDef}
 use Rattle.shape_base.specs.declared.registry_event.RegistryEvent.{RegistryEvent}
 use Rattle.shape_base.specs.declared.registry_event.RegistryEvent.TheVariants.{Registered, Ready, Removed, Took, Redefined}
 use Rattle.shape_base.specs.RegistryHistory.{RegistryStart, RegistryState, registrations, transactions, is_live, is_starting, live_numbers, last_id, last_lsn, catalog_after, state_after, MayFollow, Stands}

@@ -8,7 +8,7 @@ use Rattle.std.proofs.lemmas.List.Elements.{filter-append}
 use Rattle.std.proofs.lemmas.Bool.Decides.{Decides-eqb, nat_tests}
 use Rattle.shape_base.specs.Tables.{same_text}
 use Rattle.shape_base.specs.declared.cause.Cause.{Cause}
-use Rattle.shape_base.specs.declared.row.TableDef.{TableDef}
+use Rattle.shape_base.specs.declared.definition.TableDef.{TableDef}
 use Rattle.shape_base.specs.declared.registry_event.RegistryEvent.{RegistryEvent}
 use Rattle.shape_base.specs.declared.registry_event.RegistryEvent.TheVariants.{Registered, Ready, Removed, Took, Redefined}
 use Rattle.shape_base.specs.RegistryHistory.{Registration, Removal, registrations, registration_in, removals, removal_in, made_ready, ready_in, was_registered, was_removed, had_ready, is_live, is_starting, live_registrations, live_under, MayRegister, MayFollow, MayAllFollow, IsLegal}

@@ -13,11 +13,7 @@ ghost use Rattle.shape_registry.specs.declared.standing.Standing.TheVariants as 
 use super::found::Found;
 use super::refusal::Refusal;
 use super::standing::Standing;
-use shape_base::ask::Named;
-use shape_base::handle::Handle;
-use shape_base::memory::{Duplicate, OutOfMemory};
-use shape_base::row::{Numbers, TableDef, TableDefs};
-use shape_base::text::Text;
+use shape_base::{Duplicate, Handle, Named, Numbers, OutOfMemory, TableDef, TableDefs, Text};
 use std::alloc::Global;
 use std::collections::BTreeMap;
 use std::marker::Model;
