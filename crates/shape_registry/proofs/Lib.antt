@@ -5,4 +5,5 @@ pub mod Legal
 pub mod Following
 pub mod Meanings
 pub mod Laws
+pub mod States
 pub mod KeptValues

@@ -1,5 +1,5 @@
 //! The live handles of a registry by number and by identity, without what is kept for them.
-ghost use Rattle.std.specs.Prelude.{◌≡◌, ℕ, ◌+◌, ◌-◌, ◌<◌, ◌^◌, [], None, Some, length, slice_get, map, IfOk, OnOk, OnErr, IsSome, IfSome, if◌then◌else◌, ◌&&◌};
+ghost use Rattle.std.specs.Prelude.{◌≡◌, ℕ, ◌+◌, ◌-◌, ◌<◌, ◌^◌, ◌≢◌, [], None, Some, length, slice_get, map, IfOk, OnOk, OnErr, IsSome, IfSome, if◌then◌else◌, ◌&&◌};
 ghost use Rattle.std.specs.Option.{option_map};
 ghost use Rattle.std.specs.BTreeMap.{keys};
 ghost use Rattle.shape_base.specs.declared.cause.Cause.{Cause};
@@ -297,8 +297,9 @@ impl Handles {
 
     /// The next number.
     pub fn next(&self) -> u64
-        requires { self.now.given < 2 ^ 64 - 1 }
-        ensures { result ≡ self.now.given + 1 }
+        requires { self.now.given ≢ 2 ^ 64 - 1 }
+        ensures next { result ≡ self.now.given + 1 }
+        ensures fresh { live_at self.now result ≡ None }
     {
         self.given + 1
     }
@@ -311,7 +312,7 @@ impl Handles {
         table: u32,
     ) -> Result<u64, OutOfMemory>
         requires free { live_as self.old identity ≡ None }
-        requires room { self.old.given < 2 ^ 64 - 1 }
+        requires room { self.old.given ≢ 2 ^ 64 - 1 }
         ensures ok { IfOk result (λ number. (number ≡ self.old.given + 1) × (self.new ≡ after self.old (events.Registered number identity table (id_in self.old)))) }
         ensures err { OnErr result (self.new ≡ self.old) }
     {

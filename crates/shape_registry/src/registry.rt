@@ -1,6 +1,6 @@
 //! The registry of handles.
 ghost use Rattle.std.specs.Prelude.{◌≡◌, ℕ, ◌+◌, ◌<◌, [], map, length, slice_get, Some, None, IfOk, IfErr, OnOk, OnErr, OnSome, IfNone, is_some, true};
-ghost use Rattle.std.specs.Option.{option_map, option_copied};
+ghost use Rattle.std.specs.Option.{option_map, option_copied, option_copied_mut};
 ghost use Rattle.std.specs.FinMap as fin;
 ghost use Rattle.shape_base.specs.declared.registry_event.RegistryEvent.TheVariants as events;
 ghost use Rattle.shape_base.specs.Handle.{is_run};
@@ -46,6 +46,9 @@ impl<K> Model for Registry<K> {
 }
 
 impl<K> Registry<K> {
+    ghost use Rattle.std.specs.Borrow.{sem};
+    ghost use Rattle.shape_registry.specs.Lends.{lends_kept};
+
     /// A registry of no handles: the name of its run, how many handles may be live, and the definition of each served
     /// table.
     pub fn new(
@@ -123,6 +126,16 @@ impl<K> Registry<K> {
         ensures by_history { ByHistory self.now.state (λ start es. is_some result ≡ is_live es number) }
     {
         self.values.get(&number)
+    }
+
+    /// The value that is kept for a number, to write to. `None` exactly where it is not live.
+    pub fn kept_mut(&mut self, number: u64) -> Option<&mut K>
+        ensures* writes_back { sem 𝓛 (lends_kept K.row self.entry number result) }
+        ensures kept { option_copied_mut result ≡ fin.get self.old.kept number }
+        ensures live { is_some result ≡ is_some (live_at self.old.state number) }
+        ensures by_history { ByHistory self.old.state (λ start es. is_some result ≡ is_live es number) }
+    {
+        self.values.get_mut(&number)
     }
 
     /// Notes a transaction that was taken, and gives the live numbers, rising.
@@ -242,8 +255,12 @@ impl<K: Drop> Registry<K> {
         ensures unchanged { IfNone result (self.new ≡ self.old) }
     {
         let _ = cause;
-        let kept = self.values.remove(&number)?;
-        self.handles.remove(number);
-        Some(kept)
+        match self.values.remove(&number) {
+            Some(kept) => {
+                self.handles.remove(number);
+                Some(kept)
+            }
+            None => None,
+        }
     }
 }
