@@ -11,6 +11,7 @@ use Rattle.shape_base.specs.RegistryHistory.{RegistryStart, RegistryState, regis
 use Rattle.shape_registry.specs.declared.standing.Standing.TheVariants as standings
 use Rattle.shape_registry.specs.State.{live_at, standing_in, id_in, lsn_in, found_in, refusal_in, after}
 use Rattle.shape_registry.specs.ByHistory.{standing_after, before_after, found_after, refusal_after}
+pub use Rattle.shape_registry.proofs.Catalog.{catalog_placed}
 use Rattle.shape_registry.proofs.Following.{stands_next}
 use Rattle.shape_registry.proofs.Meanings.{standing_is, before_is, live_is, found_is_after, refusal_is, may_register, may_start, numbers_are}
 

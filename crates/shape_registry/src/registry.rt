@@ -3,7 +3,6 @@ ghost use Rattle.std.specs.Prelude.{◌≡◌, ℕ, ◌+◌, ◌<◌, [], map, l
 ghost use Rattle.std.specs.Option.{option_map, option_copied, option_copied_mut};
 ghost use Rattle.std.specs.FinMap as fin;
 ghost use Rattle.shape_base.specs.declared.registry_event.RegistryEvent.TheVariants as events;
-ghost use Rattle.shape_base.specs.Handle.{is_run};
 ghost use Rattle.shape_base.specs.RegistryHistory.{Stands, is_live, live_numbers, last_id, transactions, definition_after};
 ghost use Rattle.shape_registry.specs.State.{live_at, standing_in, id_in, lsn_in, found_in, refusal_in, after};
 ghost use Rattle.shape_registry.specs.ByHistory.{standing_after, before_after, found_after, refusal_after};
@@ -50,15 +49,13 @@ impl<K> Registry<K> {
     ghost use Rattle.shape_registry.specs.Lends.{lends_kept};
 
     /// A registry of no handles: the name of its run, how many handles may be live, and the definition of each served
-    /// table.
+    /// table, in the table's place.
     pub fn new(
         alloc: Global,
         run: Text,
         limit: u64,
         definitions: TableDefs,
     ) -> Result<Registry<K>, OutOfMemory>
-        requires run { is_run run ≡ true }
-        requires placed { ArePlaced definitions }
         ensures { IfOk result (λ registry. Stands (record { run = run; limit = limit; catalog = definitions }) [] registry.state × (registry.kept ≡ fin.empty)) }
     {
         let handles = Handles::new(alloc, run, limit, definitions);
@@ -115,6 +112,7 @@ impl<K> Registry<K> {
         requires { table < length self.now.state.catalog }
         ensures definition { slice_get self.now.state.catalog table ≡ Some result.now }
         ensures by_history { ByHistory self.now.state (λ start es. definition_after start.catalog es table ≡ Some result.now) }
+        ensures placed { ByHistory self.now.state (λ start es. ArePlaced start.catalog → result.now.table ≡ table) }
     {
         self.handles.definition(table)
     }
