@@ -6,6 +6,6 @@ use Rattle.std.specs.FinMap as fin
 use Rattle.shape_registry.specs.Registry.{WithKept}
 use Rattle.shape_registry.specs.contracts.registry.Registry.{the_row}
 
--- the last value written through r is kept for the number; at `None` the registry stays as it is
+-- the last value written through r is kept for the number, and nothing else changes; at `None` the registry stays as it is
 abbrev pub lends_kept : (K : RattleType) → MutBor (WithKept K.Denot) → ℕ → Option (MutBor K.Denot) → Fml
-lends_kept K s number r = LendsSo (the_row K) K s r (λ n w. OnSome r (n ≡ record s.now { kept = fin.insert s.now.kept number w })) (λ n. n ≡ s.now)
+lends_kept K s number r = LendsSo (the_row K) K s r (λ n w. (n.state ≡ s.now.state) × OnSome r (n.kept ≡ fin.insert s.now.kept number w)) (λ n. n ≡ s.now)

@@ -26,8 +26,8 @@ pub returns : goal.returns
 returns g c = let live : is_some c.get_mut.result ≡ is_some (live_at c.args.self.now.state c.args.number)
         = copied c.get_mut.result ∙ ap is_some c.get_mut.ensures.value ∙ c.self.invariant c.args.number ∙ ap (λ r. is_some (live_at r.state c.args.number)) c.self.view_is in
     ((refl,
-      (λ w. on_some c.get_mut.result _ _ c.get_mut.ensures.value (λ there. ap (λ k. record { state = c.self.inside.handles; kept = k }) (insert_in c.self.inside.values (c.get_mut.follows.lender w) c.args.number w ((c.get_mut.follows.holds w).3 there).0)
-        ∙ ap (λ r. record { state = r.state; kept = fin.insert r.kept c.args.number w }) c.self.view_is)),
+      (λ w. (ap (λ r. r.state) c.self.view_is, on_some c.get_mut.result _ _ c.get_mut.ensures.value (λ there. insert_in c.self.inside.values (c.get_mut.follows.lender w) c.args.number w ((c.get_mut.follows.holds w).3 there).0
+        ∙ ap (λ r. fin.insert r.kept c.args.number w) c.self.view_is))),
       ap (λ m. record { state = c.self.inside.handles; kept = map_in m }) c.get_mut.follows.holds-at-none ∙ c.self.view_is),
      record {
        writes_back = tt;
