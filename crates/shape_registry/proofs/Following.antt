@@ -37,7 +37,7 @@ handles_stay : (es : List RegistryEvent) (e : RegistryEvent) → ready_in e ≡ 
 unfolding handle_of
 handles_stay es e none rs all = map_each (live_handle (es ++ e ∷ [])) (live_handle es) rs
     (each_from (λ (r : Registration). was_registered es r.number ≡ true) (λ r. live_handle (es ++ e ∷ []) r ≡ live_handle es r) rs
-      (λ r h. ap (λ n. handle_of r n (had_ready (es ++ e ∷ []) r.number)) (before_same es e r h) ∙ ap (λ b. handle_of r (taken_before es r.number) b) (ready_stays es e r.number none)) all)
+    (λ r h. ap (λ n. handle_of r n (had_ready (es ++ e ∷ []) r.number)) (before_same es e r h) ∙ ap (λ b. handle_of r (taken_before es r.number) b) (ready_stays es e r.number none)) all)
 
 or_false : (b : Bool) → (b || false) ≡ b
 or_false true = refl
@@ -48,7 +48,7 @@ unfolding handle_of
 handles_ready es n [] all = refl
 handles_ready es n (r ∷ rs) all = ap (λ l. l ∷ map (live_handle (es ++ Ready n ∷ [])) rs)
     (ap (λ m. handle_of r m (had_ready (es ++ Ready n ∷ []) r.number)) (before_same es (Ready n) r all.0)
-      ∙ ap (λ b. handle_of r (taken_before es r.number) b) (ap (λ ns. list_any (λ m. m == r.number) ns) (part_grows ready_in es (Ready n) n refl) ∙ any_more (λ m. m == r.number) (made_ready es) n))
+    ∙ ap (λ b. handle_of r (taken_before es r.number) b) (ap (λ ns. list_any (λ m. m == r.number) ns) (part_grows ready_in es (Ready n) n refl) ∙ any_more (λ m. m == r.number) (made_ready es) n))
     ∙ ap (λ ls. with_ready n (live_handle es r) ∷ ls) (handles_ready es n rs all.1)
 
 -- ---- the fields of what is kept
@@ -79,23 +79,23 @@ pub state_next : (start : RegistryStart) (es : List RegistryEvent) (e : Registry
 unfolding kept_with handle_of
 state_next start es (Registered n i t l) legal may = let r : Registration = record { number = n; identity = i; table = t; last = l } in let facts = facts_of start.limit es legal in
     six start (catalog_stays start.catalog es (Registered n i t l) refl)
-      (ap (map (live_handle (es ++ Registered n i t l ∷ []))) (live_grows start.limit es (record { number = n; identity = i; table = t; last = l }) (facts_of start.limit es legal) may)
-        ∙ map-append (live_handle (es ++ Registered n i t l ∷ [])) (live_registrations es) _
-        ∙ ap (λ ls. ls ++ live_handle (es ++ Registered n i t l ∷ []) (record { number = n; identity = i; table = t; last = l }) ∷ []) (handles_stay es (Registered n i t l) refl (live_registrations es) (each_registered es))
-        ∙ ap (λ l. map (live_handle es) (live_registrations es) ++ l ∷ [])
-          (ap (λ xs. handle_of (record { number = n; identity = i; table = t; last = l }) (length (transactions xs)) (had_ready (es ++ Registered n i t l ∷ []) n))
-              (before_new es (Registered n i t l) n (new_number start.limit es (record { number = n; identity = i; table = t; last = l }) (facts_of start.limit es legal) may) (itself n))
-            ∙ ap (λ b. handle_of (record { number = n; identity = i; table = t; last = l }) (length (transactions es)) b)
-              (ready_stays es (Registered n i t l) n refl ∙ (facts_of start.limit es legal).readied n (new_number start.limit es (record { number = n; identity = i; table = t; last = l }) (facts_of start.limit es legal) may))))
-      (ap (λ (rs : List Registration). length rs) (grows start.limit es (record { number = n; identity = i; table = t; last = l }) (facts_of start.limit es legal) may) ∙ length-append (registrations es) _)
-      (taken_stays es (Registered n i t l) refl) (last_stays es (Registered n i t l) refl)
+    (ap (map (live_handle (es ++ Registered n i t l ∷ []))) (live_grows start.limit es (record { number = n; identity = i; table = t; last = l }) (facts_of start.limit es legal) may)
+    ∙ map-append (live_handle (es ++ Registered n i t l ∷ [])) (live_registrations es) _
+    ∙ ap (λ ls. ls ++ live_handle (es ++ Registered n i t l ∷ []) (record { number = n; identity = i; table = t; last = l }) ∷ []) (handles_stay es (Registered n i t l) refl (live_registrations es) (each_registered es))
+    ∙ ap (λ l. map (live_handle es) (live_registrations es) ++ l ∷ [])
+    (ap (λ xs. handle_of (record { number = n; identity = i; table = t; last = l }) (length (transactions xs)) (had_ready (es ++ Registered n i t l ∷ []) n))
+    (before_new es (Registered n i t l) n (new_number start.limit es (record { number = n; identity = i; table = t; last = l }) (facts_of start.limit es legal) may) (itself n))
+    ∙ ap (λ b. handle_of (record { number = n; identity = i; table = t; last = l }) (length (transactions es)) b)
+    (ready_stays es (Registered n i t l) n refl ∙ (facts_of start.limit es legal).readied n (new_number start.limit es (record { number = n; identity = i; table = t; last = l }) (facts_of start.limit es legal) may))))
+    (ap (λ (rs : List Registration). length rs) (grows start.limit es (record { number = n; identity = i; table = t; last = l }) (facts_of start.limit es legal) may) ∙ length-append (registrations es) _)
+    (taken_stays es (Registered n i t l) refl) (last_stays es (Registered n i t l) refl)
 state_next start es (Ready n) legal may = six start (catalog_stays start.catalog es (Ready n) refl)
     (ap (map (live_handle (es ++ Ready n ∷ []))) (live_stays es (Ready n) refl refl) ∙ handles_ready es n (live_registrations es) (each_registered es))
     (given_stays es (Ready n) refl) (taken_stays es (Ready n) refl) (last_stays es (Ready n) refl)
 state_next start es (Removed n c) legal may = six start (catalog_stays start.catalog es (Removed n c) refl)
     (ap (map (live_handle (es ++ Removed n c ∷ []))) (live_without es n c)
-      ∙ handles_stay es (Removed n c) refl (filter (λ r. not (n == r.number)) (live_registrations es)) (each_of_filter (λ r. was_registered es r.number ≡ true) (λ r. not (n == r.number)) (live_registrations es) (each_registered es))
-      ∙ sym (filter_of_map (live_handle es) (λ l. not (n == l.number)) (live_registrations es)))
+    ∙ handles_stay es (Removed n c) refl (filter (λ r. not (n == r.number)) (live_registrations es)) (each_of_filter (λ r. was_registered es r.number ≡ true) (λ r. not (n == r.number)) (live_registrations es) (each_registered es))
+    ∙ sym (filter_of_map (live_handle es) (λ l. not (n == l.number)) (live_registrations es)))
     (given_stays es (Removed n c) refl) (taken_stays es (Removed n c) refl) (last_stays es (Removed n c) refl)
 state_next start es (Took lsn xid) legal may = six start (catalog_stays start.catalog es (Took lsn xid) refl)
     (ap (map (live_handle (es ++ Took lsn xid ∷ []))) (live_stays es (Took lsn xid) refl refl) ∙ handles_stay es (Took lsn xid) refl (live_registrations es) (each_registered es))

@@ -108,8 +108,8 @@ module _ (limit : ℕ) (es : List RegistryEvent) (e : RegistryEvent) (facts : Fa
     readied = λ number h. readied number (sym (same_was number) ∙ h);
     names = subst (AreApart same_name) (sym live) (apart_filter same_name p (live_registrations es) facts.names);
     within = let shorter : length (filter p (live_registrations es)) ≤ length (live_registrations es) = length_filter p (live_registrations es) in
-      let w : length (live_registrations es) ≤ limit = facts.within in
-      subst (λ rs. length rs ≤ limit) (sym live) (omega arith);
+        let w : length (live_registrations es) ≤ limit = facts.within in
+        subst (λ rs. length rs ≤ limit) (sym live) (omega arith);
   }
 
 pub all_of : {A : Type 0} (xs : List A) → filter (λ _. true) xs ≡ xs
@@ -212,15 +212,15 @@ module _ (limit : ℕ) (es : List RegistryEvent) (r : Registration) (facts : Fac
   facts_registered = let longer : length (registrations es ++ r ∷ []) ≡ length (registrations es) + 1 = length-append (registrations es) (r ∷ []) in record {
     below = subst (λ rs. AllByRecursion (λ q. q.number ≤ length rs) rs) (sym grows)
         (each_and_last (λ q. q.number ≤ length (registrations es ++ r ∷ [])) (registrations es) r
-          (below_next (registrations es) (length (registrations es)) (length (registrations es ++ r ∷ [])) (omega arith) facts.below)
-          (let n : r.number ≡ length (registrations es) + 1 = may.next in omega arith));
+        (below_next (registrations es) (length (registrations es)) (length (registrations es ++ r ∷ [])) (omega arith) facts.below)
+        (let n : r.number ≡ length (registrations es) + 1 = may.next in omega arith));
     apart = subst (AreApart same_number) (sym grows) (apart_push same_number (registrations es) r facts.apart (apart_numbers (registrations es) (length (registrations es)) facts.below may.next));
     removed = λ number h. removed_stays es (Registered r.number r.identity r.table r.last) number refl ∙ facts.removed number (was_before number h);
     readied = λ number h. ready_stays es (Registered r.number r.identity r.table r.last) number refl ∙ facts.readied number (was_before number h);
     names = subst (AreApart same_name) (sym live_grows) (apart_push same_name (live_registrations es) r facts.names (unlike r.identity (live_registrations es) may.free));
     within = let longest : length (live_registrations es ++ r ∷ []) ≡ length (live_registrations es) + 1 = length-append (live_registrations es) (r ∷ []) in
-      let room : length (live_registrations es) < limit = may.room in
-      subst (λ rs. length rs ≤ limit) (sym live_grows) (omega arith);
+        let room : length (live_registrations es) < limit = may.room in
+        subst (λ rs. length rs ≤ limit) (sym live_grows) (omega arith);
   }
 
 -- ---- all events
@@ -230,11 +230,11 @@ facts_next limit es (Registered n i t l) facts may = facts_registered limit es (
 facts_next limit es (Ready n) facts may = facts_later limit es (Ready n) facts refl
     (λ number h. removed_stays es (Ready n) number refl ∙ facts.removed number h)
     (λ number h. ap (λ ns. list_any (λ n. n == number) ns) (part_grows ready_in es (Ready n) n refl) ∙ any_more (λ n. n == number) (made_ready es) n
-      ∙ both_false (had_ready es number) (n == number) (facts.readied number h) (other es n number (starting_was es n may) h))
+    ∙ both_false (had_ready es number) (n == number) (facts.readied number h) (other es n number (starting_was es n may) h))
     (λ _. true) (live_stays es (Ready n) refl refl ∙ sym (all_of (live_registrations es)))
 facts_next limit es (Removed n c) facts may = facts_later limit es (Removed n c) facts refl
     (λ number h. ap (λ (gone : List Removal). list_any (λ x. x.number == number) gone) (part_grows removal_in es (Removed n c) (record { number = n; cause = c }) refl) ∙ any_more (λ x. x.number == number) (removals es) (record { number = n; cause = c })
-      ∙ both_false (was_removed es number) (n == number) (facts.removed number h) (other es n number (live_was es n may) h))
+    ∙ both_false (was_removed es number) (n == number) (facts.removed number h) (other es n number (live_was es n may) h))
     (λ number h. ready_stays es (Removed n c) number refl ∙ facts.readied number h)
     (λ r. not (n == r.number)) (live_without es n c)
 facts_next limit es (Took lsn xid) facts may = facts_later limit es (Took lsn xid) facts refl

@@ -146,7 +146,7 @@ unlike_others r identity (q ∷ rs) h all = (differ (same_text q.identity identi
   where
     differ : (b : Bool) → same_text q.identity identity ≡ b → b ≡ false
     differ true is = let same : r.identity ≡ q.identity = (text_decides r.identity identity).0 h ∙ sym ((text_decides q.identity identity).0 is) in
-      let t : same_text r.identity q.identity ≡ true = (text_decides r.identity q.identity).1 same in let f : same_text r.identity q.identity ≡ false = all.0 in cc
+        let t : same_text r.identity q.identity ≡ true = (text_decides r.identity q.identity).1 same in let f : same_text r.identity q.identity ≡ false = all.0 in cc
     differ false is = refl
 
 none_passing : (p : Registration → Bool) (identity : List ℕ) (rs : List Registration) → AllByRecursion (λ q. same_text q.identity identity ≡ false) rs → find (λ q. same_text q.identity identity) (filter p rs) ≡ None

@@ -96,9 +96,7 @@ impl Board {
     fn register(&mut self, alloc: Global, words: &str) -> Result<String, OutOfMemory> {
         let (identity, value) = cut(words, ' ');
         let identity = Text::of(alloc, identity)?;
-        let answer = self
-            .registry
-            .register(alloc, identity, 0, number_of(value));
+        let answer = self.registry.register(alloc, identity, 0, number_of(value));
         registered(alloc, answer)
     }
 
@@ -178,7 +176,12 @@ impl Board {
             "remove" => self.remove(alloc, number),
             "lookup" => self.lookup(alloc, words),
             "standing" => standing(alloc, self.registry.standing(number)),
-            "kept" => number_or(alloc, "value", self.registry.kept(number).copied(), "not live"),
+            "kept" => number_or(
+                alloc,
+                "value",
+                self.registry.kept(number).copied(),
+                "not live",
+            ),
             "write" => self.write(alloc, number, number_of(second)),
             "before" => number_or(alloc, "before", self.registry.before(number), "not live"),
             "take" => self.take(alloc, number, second),

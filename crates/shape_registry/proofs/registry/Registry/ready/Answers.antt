@@ -14,4 +14,4 @@ invariant_of-self g c = λ number. c.self.invariant number ∙ sym (live_after_r
 pub returns-clause-ready : goal.returns-clause-ready
 returns-clause-ready g c = λ start es stands. subst (Stands start (es ++ events.Ready c.args.number ∷ [])) (sym c.ready.ensures)
     (adds_ready start es c.self.inside.handles (subst (Stands start es) (sym (ap (λ r. r.state) c.self.view_is)) stands) c.args.number
-      (subst (λ s. standing_in s c.args.number ≡ standings.Starting) (sym (ap (λ r. r.state) c.self.view_is)) c.requires))
+    (subst (λ s. standing_in s c.args.number ≡ standings.Starting) (sym (ap (λ r. r.state) c.self.view_is)) c.requires))

@@ -14,4 +14,4 @@ returns-in-Some-clause-refused_by_history g c = λ start es stands. subst (λ o.
 pub returns-clause-registered : goal.returns-clause-registered
 returns-clause-registered g c = IfOk-weaker c.put.result _ (λ number. Adds c.args.self.now.state (events.Registered number c.args.identity c.args.table (id_in c.args.self.now.state)) c.put.new.self.state)
     (λ number ok start es stands. subst (Stands start (es ++ events.Registered number c.args.identity c.args.table (id_in c.args.self.now.state) ∷ [])) (sym ok.1)
-      (adds_registered start es c.args.self.now.state stands number c.args.identity c.args.table ok.0 (sym (c.refusal.ensures ∙ ap (λ r. refusal_in r.state c.args.identity) c.self.view_is) ∙ c.in_default.is))) c.put.ensures.state
+    (adds_registered start es c.args.self.now.state stands number c.args.identity c.args.table ok.0 (sym (c.refusal.ensures ∙ ap (λ r. refusal_in r.state c.args.identity) c.self.view_is) ∙ c.in_default.is))) c.put.ensures.state

@@ -39,4 +39,4 @@ returns-in-Some-clause-state g c = c.remove-in-Some.ensures c.args.cause ∙ ap 
 pub returns-in-Some-clause-removed : goal.returns-in-Some-clause-removed
 returns-in-Some-clause-removed g c = λ start es stands. subst (Stands start (es ++ events.Removed c.args.number c.args.cause ∷ [])) (sym (c.remove-in-Some.ensures c.args.cause))
     (adds_removed start es c.self.inside.handles (subst (Stands start es) (sym (ap (λ r. r.state) c.self.view_is)) stands) c.args.number c.args.cause
-      (sym (c.self.invariant c.args.number) ∙ ap is_some (sym c.in-Some.ensures.value)))
+    (sym (c.self.invariant c.args.number) ∙ ap is_some (sym c.in-Some.ensures.value)))

@@ -15,5 +15,5 @@ returns-clause-numbers g c = IfOk-weaker c.take.result _ (λ numbers. ByHistory 
 pub returns-clause-took : goal.returns-clause-took
 returns-clause-took g c = IfOk-weaker c.take.result _ (λ numbers. Adds c.args.self.now.state (events.Took c.args.lsn c.args.xid) c.take.new.self)
     (λ numbers ok start es stands. subst (Stands start (es ++ events.Took c.args.lsn c.args.xid ∷ [])) (sym ok.1)
-      (adds_took start es c.self.inside.handles (subst (Stands start es) (sym (ap (λ r. r.state) c.self.view_is)) stands) c.args.lsn c.args.xid
-        (subst (λ s. lsn_in s < c.args.lsn) (sym (ap (λ r. r.state) c.self.view_is)) c.requires))) c.take.ensures.ok
+    (adds_took start es c.self.inside.handles (subst (Stands start es) (sym (ap (λ r. r.state) c.self.view_is)) stands) c.args.lsn c.args.xid
+    (subst (λ s. lsn_in s < c.args.lsn) (sym (ap (λ r. r.state) c.self.view_is)) c.requires))) c.take.ensures.ok
