@@ -1,0 +1,188 @@
+-- What the two maps of a registry find is what the list of its live handles has.
+use Rattle.std.proofs.Common.{◌≡◌, ℕ, ◌+◌, ◌≤◌, ◌<◌, Bool, true, false, not, cond, ◌&&◌, ◌==◌, List, [], ◌∷◌, ◌++◌, map, Option, None, Some, refl, sym, ◌∙◌, ap, subst, arith, rules}
+use Rattle.std.specs.Prelude.{IfSome, IsSomeAnd, filter, find, length, MatchOption}
+use Rattle.std.specs.List.{AllByRecursion, All}
+use Rattle.std.specs.Option.{option_map, option_and_then, option_copied}
+use Rattle.std.specs.Borrow.{Bor}
+use Rattle.std.specs.Ordering.{nat_cmp, is_eq}
+use Rattle.std.specs.declared.cmp.Ordering.{Ordering}
+use Rattle.std.specs.declared.cmp.Ordering.TheVariants.{Less, Equal, Greater}
+use Rattle.std.specs.Map.{lookup, keys_of, remove_entry, set_value}
+use Rattle.std.specs.BTreeMap.{is_at, insert_entry}
+use Rattle.std.specs.List.Sorted.{IsStrictlySortedBy}
+use Rattle.std.proofs.lemmas.Grind.{common_steps}
+use Rattle.std.proofs.lemmas.Bool.Decides.{Decides-eqb, nat_tests}
+use Rattle.std.proofs.lemmas.Slice.Eq.{slice_eq-Decides}
+use Rattle.std.specs.Bool.{Decides}
+use Rattle.shape_base.specs.Tables.{same_text}
+use Rattle.shape_base.specs.RegistryHistory.{LiveHandle, RegistryState}
+use Rattle.shape_registry.specs.declared.handles.LiveEntry.{LiveEntry}
+use Rattle.shape_registry.specs.declared.standing.Standing.TheVariants as standings
+use Rattle.shape_registry.specs.State.{live_at, standing_in, standing_of}
+use Rattle.shape_registry.specs.Entries.{handle_in, AreLinked, number_under, entry_at}
+
+-- the tests decide
+
+pub text_decides : (a b : List ℕ) → Decides (same_text a b) (a ≡ b)
+text_decides a b = slice_eq-Decides Decides-eqb a b (same_text a b) refl
+
+pub at_is : (n k : ℕ) → is_at (nat_cmp n) k ≡ (k == n)
+at_is n k = grind (arith, nat_tests)
+
+-- a number of the list finds what the map has for it
+
+number_step : (e : ℕ × LiveEntry) (n : ℕ) (b c : Bool) (r : Option LiveHandle) (o : Option LiveEntry) → b ≡ c → (b ≡ true → e.0 ≡ n) → r ≡ option_map (λ x. handle_in (n, x)) o
+    → cond b (Some (handle_in e)) r ≡ option_map (λ x. handle_in (n, x)) (cond c (Some e.1) o)
+number_step e n true true r o same is rest = ap (λ k. Some (handle_in (k, e.1))) (is refl)
+number_step e n true false r o same is rest = cc
+number_step e n false true r o same is rest = cc
+number_step e n false false r o same is rest = rest
+
+pub find_number : (es : List (ℕ × LiveEntry)) (n : ℕ) → find (λ l. l.number == n) (map handle_in es) ≡ option_map (λ x. handle_in (n, x)) (lookup (is_at (nat_cmp n)) es)
+find_number [] n = refl
+find_number (e ∷ es) n = number_step e n (e.0 == n) (is_at (nat_cmp n) e.0) _ _ (sym (at_is n e.0)) (Decides-eqb e.0 n).0 (find_number es n)
+
+-- ---- each entry of the list is found by its number
+
+not_less : (n : ℕ) → nat_cmp n n ≡ Less → ⊥
+not_less n h = grind (arith, nat_tests)
+
+less_apart : (n k : ℕ) → nat_cmp n k ≡ Less → is_at (nat_cmp n) k ≡ false
+less_apart n k h = ap is_eq h
+
+pub none_above : (n : ℕ) (es : List (ℕ × LiveEntry)) → AllByRecursion (λ k. nat_cmp n k ≡ Less) (keys_of es) → lookup (is_at (nat_cmp n)) es ≡ None
+none_above n [] h = refl
+none_above n (e ∷ es) h = rw (less_apart n e.0 h.0) (none_above n es h.1)
+
+-- a fact of what a number finds in a list, where its head has another number
+tail_step : (P : ℕ → LiveEntry → Type 0) (n : ℕ) (x : LiveEntry) (b : Bool) (o : Option LiveEntry) → (b ≡ true → o ≡ None) → IfSome (cond b (Some x) o) (P n) → IfSome o (P n)
+tail_step P n x true o none h = rw (none refl) tt
+tail_step P n x false o none h = h
+
+pub same_at : (n k : ℕ) → is_at (nat_cmp n) k ≡ true → k ≡ n
+same_at n k h = (Decides-eqb k n).0 (sym (at_is n k) ∙ h)
+
+pub at_itself : (n : ℕ) → is_at (nat_cmp n) n ≡ true
+at_itself n = at_is n n ∙ (Decides-eqb n n).1 refl
+
+-- what holds of the entry that each number finds holds of each entry
+pub each_found : (P : ℕ → LiveEntry → Type 0) (es : List (ℕ × LiveEntry)) → IsStrictlySortedBy nat_cmp (keys_of es)
+    → ((n : ℕ) → IfSome (lookup (is_at (nat_cmp n)) es) (P n)) → AllByRecursion (λ e. P e.0 e.1) es
+unfolding IsStrictlySortedBy
+each_found P [] sorted found = tt
+each_found P (e ∷ es) sorted found = (
+  (let h : IfSome (cond (is_at (nat_cmp e.0) e.0) (Some e.1) (lookup (is_at (nat_cmp e.0)) es)) (P e.0) = found e.0 in
+      let t : is_at (nat_cmp e.0) e.0 ≡ true = at_itself e.0 in
+      subst (λ b. IfSome (cond b (Some e.1) (lookup (is_at (nat_cmp e.0)) es)) (P e.0)) t h),
+  each_found P es sorted.1 (λ n. tail_step P n e.1 (is_at (nat_cmp n) e.0) (lookup (is_at (nat_cmp n)) es)
+      (λ t. subst (λ k. lookup (is_at (nat_cmp k)) es ≡ None) (same_at n e.0 t) (none_above e.0 es sorted.0)) (found n)),
+)
+
+-- ---- what the list has for an identity is what the map of identities has
+
+-- a handle of the list under an identity, with its entry, of which P holds
+record IsFound (P : ℕ → LiveEntry → Type 0) (identity : List ℕ) (l : LiveHandle) : Type 0 where
+  entry : LiveEntry
+  handle : l ≡ handle_in (l.number, entry)
+  named : entry.identity ≡ identity
+  holds : P l.number entry
+
+find_some_step : (P : ℕ → LiveEntry → Type 0) (e : ℕ × LiveEntry) (identity : List ℕ) (b : Bool) (r : Option LiveHandle) (l : LiveHandle)
+    → (b ≡ true → e.1.identity ≡ identity) → P e.0 e.1 → (r ≡ Some l → IsFound P identity l)
+    → cond b (Some (handle_in e)) r ≡ Some l → IsFound P identity l
+find_some_step P e identity true r l is here rest h = let same : handle_in e ≡ l = cc in
+    subst (λ l. IsFound P identity l) same (record { entry = e.1; handle = refl; named = is refl; holds = here })
+find_some_step P e identity false r l is here rest h = rest h
+
+find_some : (P : ℕ → LiveEntry → Type 0) (es : List (ℕ × LiveEntry)) → AllByRecursion (λ e. P e.0 e.1) es
+    → (identity : List ℕ) (l : LiveHandle) → find (λ l. same_text l.identity identity) (map handle_in es) ≡ Some l → IsFound P identity l
+find_some P [] all identity l h = cc
+find_some P (e ∷ es) all identity l h = find_some_step P e identity (same_text e.1.identity identity) _ l (text_decides e.1.identity identity).0 all.0 (find_some P es all.1 identity l) h
+
+find_none_step : (e : ℕ × LiveEntry) (identity : List ℕ) (b c : Bool) (r : Option LiveHandle) (o : Option LiveEntry) (x : LiveEntry)
+    → same_text e.1.identity identity ≡ b → (r ≡ None → o ≡ Some x → same_text x.identity identity ≡ false)
+    → cond b (Some (handle_in e)) r ≡ None → cond c (Some e.1) o ≡ Some x → same_text x.identity identity ≡ false
+find_none_step e identity true c r o x is rest h g = cc
+find_none_step e identity false true r o x is rest h g = let same : e.1 ≡ x = cc in subst (λ (x : LiveEntry). same_text x.identity identity ≡ false) same is
+find_none_step e identity false false r o x is rest h g = rest h g
+
+find_none : (es : List (ℕ × LiveEntry)) (identity : List ℕ) → find (λ l. same_text l.identity identity) (map handle_in es) ≡ None
+    → (n : ℕ) (x : LiveEntry) → lookup (is_at (nat_cmp n)) es ≡ Some x → same_text x.identity identity ≡ false
+find_none [] identity h n x g = cc
+find_none (e ∷ es) identity h n x g = find_none_step e identity (same_text e.1.identity identity) (is_at (nat_cmp n) e.0) _ _ x refl (λ a b. find_none es identity a n x b) h g
+
+back_at : (entries : List (ℕ × LiveEntry)) (identity : List ℕ) (f : Option ℕ) (n : ℕ) → IfSome f (λ number. IsSomeAnd (entry_at entries number) (λ x. x.identity ≡ identity)) → f ≡ Some n → IsSomeAnd (entry_at entries n) (λ x. x.identity ≡ identity)
+back_at entries identity f n h e = let P : Option ℕ → Type 0 = λ o. IfSome o (λ number. IsSomeAnd (entry_at entries number) (λ x. x.identity ≡ identity)) in subst P e h
+
+no_such : (identity : List ℕ) (o : Option LiveEntry) → IsSomeAnd o (λ x. x.identity ≡ identity) → ((x : LiveEntry) → o ≡ Some x → same_text x.identity identity ≡ false) → ⊥
+no_such identity None h none = h
+no_such identity (Some x) h none = let t : same_text x.identity identity ≡ true = (text_decides x.identity identity).1 h in let f : same_text x.identity identity ≡ false = none x refl in cc
+
+-- the live handle of a number, by the map
+pub handle_at : List (ℕ × LiveEntry) → ℕ → Option LiveHandle
+handle_at entries n = option_map (λ x. handle_in (n, x)) (entry_at entries n)
+
+-- an entry is found under its identity, and by its number
+record IsKept (numbers : List (List ℕ × ℕ)) (entries : List (ℕ × LiveEntry)) (n : ℕ) (x : LiveEntry) : Type 0 where
+  named : number_under numbers x.identity ≡ Some n
+  found : entry_at entries n ≡ Some x
+
+both : (numbers : List (List ℕ × ℕ)) (entries : List (ℕ × LiveEntry)) (n : ℕ) (o : Option LiveEntry) → entry_at entries n ≡ o → IfSome o (λ x. number_under numbers x.identity ≡ Some n) → IfSome o (IsKept numbers entries n)
+both numbers entries n None e h = tt
+both numbers entries n (Some x) e h = record { named = h; found = e }
+
+found_step : (numbers : List (List ℕ × ℕ)) (entries : List (ℕ × LiveEntry)) (identity : List ℕ) (f : Option ℕ) (r : Option LiveHandle) → number_under numbers identity ≡ f
+    → ((l : LiveHandle) → r ≡ Some l → IsFound (IsKept numbers entries) identity l) → ((n : ℕ) → r ≡ None → f ≡ Some n → ⊥)
+    → r ≡ option_and_then (handle_at entries) f
+unfolding handle_at
+found_step numbers entries identity f (Some l) is some none = let s = some l refl in
+    let at : f ≡ Some l.number = sym is ∙ subst (λ i. number_under numbers i ≡ Some l.number) s.named s.holds.named in
+    let here : handle_at entries l.number ≡ Some l = ap (λ o. option_map (λ x. handle_in (l.number, x)) o) s.holds.found ∙ ap (λ l. Some l) (sym s.handle) in
+    sym (ap (option_and_then (handle_at entries)) at ∙ here)
+found_step numbers entries identity None None is some none = refl
+found_step numbers entries identity (Some n) None is some none = absurd (none n refl refl)
+
+pub found_under : (numbers : List (List ℕ × ℕ)) (entries : List (ℕ × LiveEntry)) (given : ℕ) → AreLinked numbers entries given → (identity : List ℕ)
+    → find (λ l. same_text l.identity identity) (map handle_in entries) ≡ option_and_then (handle_at entries) (number_under numbers identity)
+found_under numbers entries given h identity = found_step numbers entries identity (number_under numbers identity) (find (λ l. same_text l.identity identity) (map handle_in entries)) refl
+    (λ l e. find_some (IsKept numbers entries) entries (each_found (IsKept numbers entries) entries h.ordered (λ n. both numbers entries n (entry_at entries n) refl (h.forth n))) identity l e)
+    (λ n none e. no_such identity (entry_at entries n) (back_at entries identity (number_under numbers identity) n (h.back identity) e) (λ x is. find_none entries identity none n x is))
+
+-- where no handle of the list has the identity, the map has none
+pub unnamed : (numbers : List (List ℕ × ℕ)) (entries : List (ℕ × LiveEntry)) (given : ℕ) → AreLinked numbers entries given → (identity : List ℕ)
+    → find (λ l. same_text l.identity identity) (map handle_in entries) ≡ None → number_under numbers identity ≡ None
+unnamed numbers entries given h identity none = no_number (number_under numbers identity) (λ n e. no_such identity (entry_at entries n) (back_at entries identity (number_under numbers identity) n (h.back identity) e) (λ x is. find_none entries identity none n x is))
+  where
+    no_number : (f : Option ℕ) → ((n : ℕ) → f ≡ Some n → ⊥) → f ≡ None
+    no_number None h = refl
+    no_number (Some n) h = absurd (h n refl)
+
+-- ---- what the calls of the maps answer, as handles of the list
+
+pub at_answer : (entries : List (ℕ × LiveEntry)) (n : ℕ) (r : Option (Bor LiveEntry)) → option_copied r ≡ entry_at entries n
+    → option_map (λ e. handle_in (n, e.now)) r ≡ find (λ l. l.number == n) (map handle_in entries)
+at_answer entries n r h = copied r ∙ ap (option_map (λ x. handle_in (n, x))) h ∙ sym (find_number entries n)
+  where
+    copied : (r : Option (Bor LiveEntry)) → option_map (λ e. handle_in (n, e.now)) r ≡ option_map (λ x. handle_in (n, x)) (option_copied r)
+    copied None = refl
+    copied (Some e) = refl
+
+pub numbers_of : (es : List (ℕ × LiveEntry)) → keys_of es ≡ map (λ l. l.number) (map handle_in es)
+numbers_of [] = refl
+numbers_of (e ∷ es) = ap (λ ns. e.0 ∷ ns) (numbers_of es)
+
+module _ (numbers : List (List ℕ × ℕ)) (entries : List (ℕ × LiveEntry)) (given : ℕ) (linked : AreLinked numbers entries given) (identity : List ℕ) where
+  pub live_some : (n : ℕ) (x : LiveEntry) → number_under numbers identity ≡ Some n → entry_at entries n ≡ Some x → find (λ l. same_text l.identity identity) (map handle_in entries) ≡ Some (handle_in (n, x))
+  unfolding handle_at
+  live_some n x named found = found_under numbers entries given linked identity ∙ ap (option_and_then (handle_at entries)) named ∙ ap (option_map (λ x. handle_in (n, x))) found
+
+  pub live_lost : (n : ℕ) → number_under numbers identity ≡ Some n → entry_at entries n ≡ None → find (λ l. same_text l.identity identity) (map handle_in entries) ≡ None
+  unfolding handle_at
+  live_lost n named lost = found_under numbers entries given linked identity ∙ ap (option_and_then (handle_at entries)) named ∙ ap (option_map (λ x. handle_in (n, x))) lost
+
+  pub live_none : number_under numbers identity ≡ None → find (λ l. same_text l.identity identity) (map handle_in entries) ≡ None
+  live_none none = found_under numbers entries given linked identity ∙ ap (option_and_then (handle_at entries)) none
+
+-- a number that is not found does not start
+pub not_starting : (s : RegistryState) (n : ℕ) → live_at s n ≡ None → standing_in s n ≡ standings.Starting → ⊥
+not_starting s n none h = let e : standings.NotLive ≡ standings.Starting = sym (ap standing_of none) ∙ h in cc

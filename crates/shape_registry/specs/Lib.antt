@@ -1,0 +1,5 @@
+pub mod State
+pub mod Entries
+pub mod ByHistory
+pub mod Registry
+pub mod Lends
