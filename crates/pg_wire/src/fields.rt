@@ -26,8 +26,9 @@ fn first_code<'a>(found: Option<&'a [u8]>, kind: u8, text: &'a [u8]) -> Option<&
     }
 }
 
-/// The text of the first field `C`, where the payload is the list of fields and has one.
-pub(crate) fn sqlstate_at(payload: &[u8]) -> Option<&[u8]>
+/// The SQLSTATE code in the payload of an ErrorResponse (PostgreSQL manual, 55.8 Error and Notice Message Fields): the text of the first field `C`, where the
+/// payload is the list of fields and has one. Whether it is UTF-8 is not looked at.
+pub fn sqlstate_at(payload: &[u8]) -> Option<&[u8]>
     ensures { seen result ≡ sqlstate_of payload.now }
 {
     let mut found = None;
