@@ -2,19 +2,18 @@
 use Rattle.std.proofs.Common.{◌≡◌, ℕ, ◌+◌, ◌*◌, ◌<◌, map, length, arith, Bool, true, false, List, [], ◌∷◌, refl, sym, ◌∙◌, ap, subst, None, Some, IsSome, ◌||◌}
 use Rattle.std.specs.Option.{is_none, option_and_then}
 use Rattle.std.specs.Bool.{if◌then◌else◌}
-use Rattle.shape_base.specs.declared.row.ChangeKind.{ChangeKind}
-use Rattle.shape_base.specs.declared.row.ChangeKind.TheVariants.{Insert, Update, Delete, Truncate}
-use Rattle.shape_base.specs.declared.row.Entry.{Entry}
+use Rattle.shape_base.specs.declared.change.ChangeKind.{ChangeKind}
+use Rattle.shape_base.specs.declared.change.ChangeKind.TheVariants.{Insert, Update, Delete, Truncate}
+use Rattle.shape_base.specs.declared.entry.Entry.{Entry}
 use Rattle.shape_base.specs.Tables.{Values, Table, changed, lacks_key, same_text}
 use Rattle.shape_base.specs.Shape.{Knows, Keyed, IsTest, by_name, cell_at, cells_of, differing, update_at, delete_at, insert_at, emit, entries_of, key_text, keyed, is_bad, is_truncate, old_of, new_of, have_truths, shape_rows}
-use Rattle.shape_base.specs.declared.row.TableDef.{TableDef}
-use Rattle.shape_base.specs.declared.row.Cell.{Cell}
-use Rattle.shape_base.specs.declared.row.Offset.TheVariants.{At}
-use Rattle.shape_base.specs.declared.row.Op.TheVariants as ops
+use Rattle.shape_base.specs.declared.definition.TableDef.{TableDef}
+use Rattle.shape_base.specs.declared.entry.Cell.{Cell}
+use Rattle.shape_base.specs.declared.offset.Offset.TheVariants.{At}
+use Rattle.shape_base.specs.declared.entry.Op.TheVariants as ops
 use Rattle.change_map.specs.declared.emitting.Emitted.{Emitted}
 use Rattle.shape_base.specs.Log.{fold_from}
-use Rattle.shape_base.proofs.Shown.{map_of}
-use Rattle.shape_base.proofs.Commits.{fold-emit, truths_changed, keyed_from}
+use Rattle.shape_base.proofs.Lemmas.{map_of, fold-emit, truths_changed, keyed_from}
 use Rattle.change_map.specs.Emitting.{own, in_order, IsWhole, LeadsOver}
 
 pub whole_kind : (s : Knows) (kind : ChangeKind) → IsWhole s.definition kind → is_truncate kind ≡ false

@@ -1,5 +1,6 @@
 -- Key values and key texts.
 use Rattle.std.proofs.Common.{◌≡◌, ℕ, suc, ◌+◌, ◌<◌, ◌≤◌, Bool, true, false, List, [], ◌∷◌, ◌++◌, length, map, take, drop, get_or, refl, sym, ◌∙◌, ap, subst, arith, add-one, append_assoc, Option, None, Some, min, ◌&&◌, ◌||◌, ◌==◌}
+use Rattle.std.proofs.lemmas.Bool.{false_from_ne_true, or_from, or_right}
 use Rattle.std.specs.Prelude.{nat_le}
 use Rattle.std.specs.Option.{MatchOption}
 use Rattle.std.specs.List.{list_any, flat_map, slice_index_or, AllByRecursion}
@@ -9,13 +10,11 @@ use Rattle.std.proofs.lemmas.Bool.Decides.{nat_tests, Decides-eqb}
 use Rattle.std.proofs.lemmas.List.Folds.{flat_map-map}
 use Rattle.std.proofs.lemmas.Str.{IsUtf8-append, IsUtf8-from_ascii}
 use Rattle.std.proofs.lemmas.Str.Ascii.{IsAscii-nil, IsAscii-cons}
-use Rattle.shape_base.specs.declared.row.Value.{Value}
-use Rattle.shape_base.specs.declared.row.Value.TheVariants.{Null}
+use Rattle.shape_base.specs.declared.value.Value.{Value}
+use Rattle.shape_base.specs.declared.value.Value.TheVariants.{Null}
 use Rattle.shape_base.specs.Tables.{Values, is_null, lacks_key, key_values, same_row, same_text}
 use Rattle.shape_base.specs.Shape.{Knows, IsTest, IsLeast, quoted, words_of, key_text}
-use Rattle.shape_base.proofs.Tests.{Decides-same_text, Decides-same_row, false_from}
-use Rattle.shape_base.proofs.Utf8Key.{IsUtf8-quoted}
-use Rattle.shape_base.proofs.KeyText.{key_texts_tell, all_key_texts_tell}
+use Rattle.shape_base.proofs.Lemmas.{Decides-same_text, Decides-same_row, IsUtf8-quoted, key_texts_tell, all_key_texts_tell}
 use Rattle.change_map.specs.Keys.{is_null_key, AreParts, parts_of, parts_text, TellsKey}
 use Rattle.change_map.proofs.Places.{some_key}
 
@@ -31,9 +30,6 @@ last false = refl
 turn : (a b c : Bool) → (a || (b || c)) ≡ ((a || b) || c)
 turn true b c = refl
 turn false b c = refl
-
-or_right : (a b : Bool) → a ≡ false → b ≡ false → (a || b) ≡ false
-or_right a b h k = rw h k
 
 any_none : (b c : Bool) → (b || c) ≡ false → (b ≡ false) × (c ≡ false)
 any_none true c h = cc
@@ -76,10 +72,10 @@ other_last row p m false e h = refl
 
 -- the last column is another
 less_last : (p m : ℕ) (n : Bool) → m < p → ((p == m) && n) ≡ false
-less_last p m n lt = rw (false_from (p == m) (λ e. let same = (Decides-eqb p m).0 e in absurd (omega (arith, same, lt)))) refl
+less_last p m n lt = rw (false_from_ne_true (p == m) (λ e. let same = (Decides-eqb p m).0 e in absurd (omega (arith, same, lt)))) refl
 
 null_kept : (key : List ℕ) (row : Values) (p : ℕ) (o : Option ℕ) → is_null (slice_index_or row p Null) ≡ false → IsNullKey key row o → IsNullKey (key ++ p ∷ []) row o
-null_kept key row p None given h = lacks_more key row p ∙ or_right _ _ h given
+null_kept key row p None given h = lacks_more key row p ∙ or_from _ _ h given
 null_kept key row p (Some c) given h = (
   lacks_more key row p ∙ rw h.0 refl,
   record {
@@ -87,10 +83,6 @@ null_kept key row p (Some c) given h = (
     least = λ m lt. ap (λ b. b && is_null (slice_index_or row m Null)) (any_more key m p) ∙ none_more (list_any (λ q. q == m) key) (p == m) _ (h.1.least m lt) (other_last row p m (p == m) refl given);
   },
 )
-
-lacks_last : (a b : Bool) → b ≡ true → (a || b) ≡ true
-lacks_last true b h = refl
-lacks_last false b h = h
 
 least_last : (key : List ℕ) (row : Values) (p : ℕ) → is_null (slice_index_or row p Null) ≡ true → ((m : ℕ) → m < p → is_null_key key row m ≡ false) → IsLeast (is_null_key (key ++ p ∷ []) row) p
 least_last key row p null before = record {
@@ -109,8 +101,8 @@ lesser_of key row p c new true e null h is = let le : p ≤ c = grind (arith, na
 lesser_of key row p c new false e null h is = let lt : c < p = grind (arith, nat_tests) in let same : new ≡ c = omega (arith, lt, is) in subst (λ x. IsLeast (is_null_key (key ++ p ∷ []) row) x) (sym same) (least_before key row p c (omega (arith, lt)) h)
 
 null_added : (key : List ℕ) (row : Values) (p : ℕ) (o : Option ℕ) (new : ℕ) → is_null (slice_index_or row p Null) ≡ true → IsNullKey key row o → MatchOption o (new ≡ p) (λ c. new ≡ min p c) → IsNullKey (key ++ p ∷ []) row (Some new)
-null_added key row p None new null h is = (lacks_more key row p ∙ lacks_last _ _ null, subst (λ x. IsLeast (is_null_key (key ++ p ∷ []) row) x) (sym is) (least_last key row p null (λ m lt. given_none key row m h)))
-null_added key row p (Some c) new null h is = (lacks_more key row p ∙ lacks_last _ _ null, lesser_of key row p c new (nat_le p c) refl null h.1 is)
+null_added key row p None new null h is = (lacks_more key row p ∙ or_right _ _ null, subst (λ x. IsLeast (is_null_key (key ++ p ∷ []) row) x) (sym is) (least_last key row p null (λ m lt. given_none key row m h)))
+null_added key row p (Some c) new null h is = (lacks_more key row p ∙ or_right _ _ null, lesser_of key row p c new (nat_le p c) refl null h.1 is)
 
 pub null_next : (key : List ℕ) (row : Values) (i d : ℕ) (o : Option ℕ) → i < length key → is_null (slice_index_or row (get_or key i d) Null) ≡ false → IsNullKey (take i key) row o → IsNullKey (take (i + 1) key) row o
 null_next key row i d o lt given h = rw add-one (subst (λ ks. IsNullKey ks row o) (sym (take-suc key i d lt)) (null_kept (take i key) row (get_or key i d) o given h))
@@ -130,7 +122,7 @@ text_of_parts s row = ap (λ vs. quoted s.served.ns ++ 46 ∷ quoted s.served.na
 -- key values are equal exactly where key texts are
 pub same_keys : (s : Knows) (old new : Values) (b : Bool) → lacks_key s.key old ≡ false → lacks_key s.key new ≡ false → same_row (key_values s.key old) (key_values s.key new) ≡ b → same_text (key_text s old) (key_text s new) ≡ b
 same_keys s old new true h k e = let same : key_values s.key old ≡ key_values s.key new = (Decides-same_row _ _).0 e in (Decides-same_text (key_text s old) (key_text s new)).1 (ap (λ vs. quoted s.served.ns ++ 46 ∷ quoted s.served.name ++ flat_map (λ v. 47 ∷ quoted (words_of v)) vs) same)
-same_keys s old new false h k e = false_from _ (λ t. let same : key_values s.key old ≡ key_values s.key new = key_texts_tell s old new h k ((Decides-same_text _ _).0 t) in let yes : same_row (key_values s.key old) (key_values s.key new) ≡ true = (Decides-same_row _ _).1 same in cc)
+same_keys s old new false h k e = false_from_ne_true _ (λ t. let same : key_values s.key old ≡ key_values s.key new = key_texts_tell s old new h k ((Decides-same_text _ _).0 t) in let yes : same_row (key_values s.key old) (key_values s.key new) ≡ true = (Decides-same_row _ _).1 same in cc)
 
 -- ---- texts
 

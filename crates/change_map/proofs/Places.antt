@@ -1,17 +1,17 @@
 -- The places of a test are in range.
 use Rattle.std.proofs.Common.{◌≡◌, ℕ, ◌+◌, ◌<◌, Bool, true, false, List, [], ◌∷◌, length, map, refl, sym, subst, arith, Option, None, Some, ◌||◌, ◌==◌}
+use Rattle.std.proofs.lemmas.Bool.{and_parts}
 use Rattle.std.specs.Prelude.{nat_le, nat_lt}
 use Rattle.std.specs.Bool.{if◌then◌else◌}
 use Rattle.std.specs.List.{list_any, list_all, AllByRecursion, IsDistinct}
 use Rattle.std.proofs.lemmas.Bool.Decides.{nat_tests, Decides-eqb}
 use Rattle.std.specs.Ordering.{nat_cmp, is_lt}
 use Rattle.std.specs.Cmp.Lexicographic.{slice_cmp}
-use Rattle.shape_base.specs.declared.row.Column.{Column}
-use Rattle.shape_base.specs.declared.row.TableDef.{TableDef}
+use Rattle.shape_base.specs.declared.definition.Column.{Column}
+use Rattle.shape_base.specs.declared.definition.TableDef.{TableDef}
 use Rattle.shape_base.specs.Visibility.{rise_between}
 use Rattle.shape_base.specs.Tables.{same_text, place_of, places_of, with_place}
 use Rattle.shape_base.specs.Shape.{Knows, IsTest, name_at, put_place, by_name}
-use Rattle.shape_base.proofs.Tests.{both_true}
 
 -- each place is below n
 abbrev pub AreBelow : ℕ → List ℕ → Type 0
@@ -20,7 +20,7 @@ AreBelow n ps = AllByRecursion (λ p. p < n) ps
 rising_below : (low n : ℕ) (ps : List ℕ) → rise_between low n ps ≡ true → AreBelow n ps
 rising_below low n [] h = tt
 rising_below low n (p ∷ ps) h =
-    let one = both_true (nat_le low p) _ h in let two = both_true (nat_lt p n) _ one.1 in
+    let one = and_parts (nat_le low p) _ h in let two = and_parts (nat_lt p n) _ one.1 in
     (grind (arith, nat_tests), rising_below (p + 1) n ps two.1)
 
 pub selected_below : (s : Knows) → IsTest s → AreBelow (length s.definition.columns) s.selected
@@ -51,7 +51,7 @@ any_below n p (q ∷ qs) h k = any_step n p q qs (p == q) refl h k (λ rest. any
 
 all_below : (n : ℕ) (qs ps : List ℕ) → list_all (λ p. list_any (λ q. p == q) qs) ps ≡ true → AreBelow n qs → AreBelow n ps
 all_below n qs [] h k = tt
-all_below n qs (p ∷ ps) h k = let both = both_true (list_any (λ q. p == q) qs) _ h in (any_below n p qs both.0 k, all_below n qs ps both.1 k)
+all_below n qs (p ∷ ps) h k = let both = and_parts (list_any (λ q. p == q) qs) _ h in (any_below n p qs both.0 k, all_below n qs ps both.1 k)
 
 -- the key's places are in range of a row that is as wide as the definition
 pub key_in_row : (s : Knows) (n : ℕ) (key : List ℕ) → IsTest s → key ≡ s.key → n ≡ length s.definition.columns → AreBelow n key

@@ -7,7 +7,7 @@ use Rattle.std.proofs.lemmas.Bool.Decides.{Decides-eqb}
 use Rattle.std.proofs.lemmas.Str.{IsUtf8-nil}
 use Rattle.std.proofs.lemmas.Grind.{flat_map-append}
 use Rattle.shape_base.specs.Shape.{doubled, quoted}
-use Rattle.shape_base.proofs.KeyText.{IsApart, quoted_split}
+use Rattle.shape_base.proofs.Lemmas.{IsApart, quoted_split}
 use Rattle.std.proofs.Math.Seq.{take-suc}
 use Rattle.std.proofs.Common.{get_or, take_all}
 use Rattle.change_map.specs.Keys.{Parts, AreParts, Spells, IsKeyText, IsReadAs, BeginsKey, IsLongestFront, parts_text, in_one}

@@ -1,10 +1,10 @@
 -- The entries of one change, and the rows that cannot be read.
 use Rattle.std.specs.Prelude.{◌≡◌, ℕ, Bool, true, List, ◌++◌, length, Option, None, Some, MatchOption, MatchBool, IsSome}
 use Rattle.std.specs.Option.{option_to_list, option_and_then}
-use Rattle.shape_base.specs.declared.row.ChangeKind.{ChangeKind}
-use Rattle.shape_base.specs.declared.row.ChangeKind.TheVariants.{Insert, Update, Delete, Truncate}
-use Rattle.shape_base.specs.declared.row.TableDef.{TableDef}
-use Rattle.shape_base.specs.declared.row.Entry.{Entry}
+use Rattle.shape_base.specs.declared.change.ChangeKind.{ChangeKind}
+use Rattle.shape_base.specs.declared.change.ChangeKind.TheVariants.{Insert, Update, Delete, Truncate}
+use Rattle.shape_base.specs.declared.definition.TableDef.{TableDef}
+use Rattle.shape_base.specs.declared.entry.Entry.{Entry}
 use Rattle.shape_base.specs.Tables.{Values, Table, Own, changed, FitsDef, IsOldThere}
 use Rattle.shape_base.specs.Shape.{Knows, IsLeast, is_bad, old_of, new_of, have_truths, shape_rows}
 use Rattle.shape_base.specs.Log.{fold_from}

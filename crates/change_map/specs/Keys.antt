@@ -2,7 +2,7 @@
 use Rattle.std.specs.Prelude.{◌≡◌, ℕ, ◌<◌, ◌≤◌, Bool, false, ◌&&◌, ◌==◌, List, ◌∷◌, ◌++◌, length, map, take, slice_index_or}
 use Rattle.std.specs.List.{list_any, flat_map, AllByRecursion}
 use Rattle.std.specs.Str.{IsUtf8}
-use Rattle.shape_base.specs.declared.row.Value.TheVariants.{Null}
+use Rattle.shape_base.specs.declared.value.Value.TheVariants.{Null}
 use Rattle.shape_base.specs.Tables.{Values, is_null, lacks_key, key_values}
 use Rattle.shape_base.specs.Shape.{Knows, quoted, words_of, key_text}
 

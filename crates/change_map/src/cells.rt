@@ -4,10 +4,7 @@ ghost use Rattle.std.specs.List.{AllByRecursion};
 ghost use Rattle.shape_base.specs.Shape.{cell_at, same_cell, differing};
 
 use crate::order::name_of;
-use shape_base::memory::{Duplicate, OutOfMemory};
-use shape_base::row::{Cell, Cells, Row, TableDef};
-use shape_base::same::are_same_values;
-use shape_base::seq::Seq;
+use shape_base::{Cell, Cells, Duplicate, OutOfMemory, Row, Seq, TableDef, are_same_values};
 use std::alloc::Global;
 
 fn cell_at(alloc: Global, definition: &TableDef, row: &Row, place: u32) -> Result<Cell, OutOfMemory>

@@ -2,18 +2,12 @@
 ghost use Rattle.std.specs.Prelude.{ℕ, min, map, ◌≡◌, ◌<◌, true, false, IfOk, OnOk, IsErrOf, MatchOption, slice_index_or, ◌∷◌, ◌++◌, length};
 ghost use Rattle.std.specs.List.{flat_map, AllByRecursion};
 ghost use Rattle.std.specs.Str.{IsUtf8};
-ghost use Rattle.shape_base.specs.declared.row.Value.TheVariants.{Null};
+ghost use Rattle.shape_base.specs.declared.value.Value.TheVariants.{Null};
 ghost use Rattle.shape_base.specs.Tables.{Values, is_null, lacks_key, key_values, same_row, same_text};
 ghost use Rattle.shape_base.specs.Shape.{Knows, IsLeast, quoted, words_of, key_text};
 ghost use Rattle.change_map.specs.Keys.{is_null_key, AreParts, Spells, parts_of, TellsKey};
 
-use shape_base::memory::OutOfMemory;
-use shape_base::quote::push_quoted;
-use shape_base::row::{Row, Value};
-use shape_base::row_test::RowTest;
-use shape_base::same::are_same_values;
-use shape_base::served::Served;
-use shape_base::text::Text;
+use shape_base::{OutOfMemory, Row, RowTest, Served, Text, Value, are_same_values, push_quoted};
 use std::alloc::{AllocError, Global};
 
 /// Why a row has no key text.

@@ -4,9 +4,7 @@ ghost use Rattle.change_map.specs.Keys.{Parts, Spells, IsReadAs, IsKeyText, IsLo
 ghost use Rattle.change_map.specs.Reading.{separator, read_so_far, IsReading, Takes};
 
 use super::wanted::{Wanted, after, nothing};
-use shape_base::memory::OutOfMemory;
-use shape_base::row::Texts;
-use shape_base::text::Text;
+use shape_base::{OutOfMemory, Text, Texts};
 use std::alloc::{AllocError, Global};
 use std::mem;
 

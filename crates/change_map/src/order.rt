@@ -5,10 +5,7 @@ ghost use Rattle.std.specs.BTreeMap.{values};
 ghost use Rattle.shape_base.specs.Tables.{same_text};
 ghost use Rattle.shape_base.specs.Shape.{name_at, by_name};
 
-use shape_base::memory::OutOfMemory;
-use shape_base::row::{Places, TableDef};
-use shape_base::seq::Seq;
-use shape_base::text::Text;
+use shape_base::{OutOfMemory, Places, Seq, TableDef, Text};
 use std::alloc::Global;
 use std::collections::BTreeMap;
 

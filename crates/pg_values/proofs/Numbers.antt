@@ -1,5 +1,6 @@
 -- Numbers in texts.
 use Rattle.std.proofs.Common.{◌≡◌, ◌⊎◌, ℕ, ◌<◌, ◌≤◌, ◌^◌, Bool, true, false, ◌&&◌, List, [], ◌∷◌, length, ℤ, pos, negsuc, nat_lt, Result, Ok, Err, refl, sym, ap, ◌∙◌, subst, inl, inr, ⊎_elim, arith, ne_eqb}
+use Rattle.std.proofs.lemmas.Bool.{and_parts, and_from, false_from_ne_true}
 use native.Mathlib.Decide.{ℕ_discrete}
 use mathlib.Core.Logic.{dite}
 use mir.Syntax.{Width, w64}
@@ -19,19 +20,11 @@ use Rattle.pg_values.specs.Values.{is_numeral, number_value, is_within, limit_of
 digits : IsNumeralModel (λ ds. all_ascii_digits ds ≡ true) (digits_value 10)
 digits = numerals_by_value _ tells_all_ascii_digits
 
-pub both : (a b : Bool) → (a && b) ≡ true → (a ≡ true) × (b ≡ true)
-both true b h = (refl, h)
-both false b h = absurd (cc)
-
-pub both_true : (a b : Bool) → a ≡ true → b ≡ true → (a && b) ≡ true
-both_true true b h k = k
-both_true false b h k = absurd (cc)
-
 pub numeral : (ds : List ℕ) → is_numeral ds ≡ true → IsNumeral 10 ds
-numeral ds h = let p = both (nat_lt 0 (length ds)) (all_ascii_digits ds) h in let some = p.0 in (grind (arith, nat_tests), digits.to ds p.1)
+numeral ds h = let p = and_parts (nat_lt 0 (length ds)) (all_ascii_digits ds) h in let some = p.0 in (grind (arith, nat_tests), digits.to ds p.1)
 
 pub numeral_back : (ds : List ℕ) → IsNumeral 10 ds → is_numeral ds ≡ true
-numeral_back ds h = let some : 0 < length ds = h.0 in both_true (nat_lt 0 (length ds)) (all_ascii_digits ds) (grind (arith, nat_tests)) (digits.from ds h.1)
+numeral_back ds h = let some : 0 < length ds = h.0 in and_from (nat_lt 0 (length ds)) (all_ascii_digits ds) (grind (arith, nat_tests)) (digits.from ds h.1)
 
 -- the range of a type of w bits
 pub within : (w : Width) (limit : ℕ) (n : ℤ) → limit ≡ 2 ^ hbits w → is_within limit n ≡ true → SFits w n
@@ -57,7 +50,7 @@ number_ascii (c ∷ cs) h = ⊎_elim (λ (p : (c < 128) × (without_leading_sign
     (λ (e : without_leading_sign (c ∷ cs) ≡ c ∷ cs). IsAscii-from_digits (c ∷ cs) (subst (IsNumeral 10) e h).1) (sign_or_digits c cs)
 
 pub number_utf8 : (kind : Kind) (text : List ℕ) → is_number kind text ≡ true → IsUtf8 text
-number_utf8 kind text h = let p = both (is_numeral (without_leading_sign text)) (is_within (limit_of kind) (number_value text)) h in
+number_utf8 kind text h = let p = and_parts (is_numeral (without_leading_sign text)) (is_within (limit_of kind) (number_value text)) h in
     IsUtf8-from_ascii text (number_ascii text (numeral (without_leading_sign text) p.0))
 
 -- the value that an integer's kind has
@@ -79,18 +72,14 @@ narrow Text h = absurd h
 narrow Uuid h = absurd h
 narrow Other h = absurd h
 
-not_true : (b : Bool) → (b ≡ true → ⊥) → b ≡ false
-not_true true h = absurd (h refl)
-not_true false h = refl
-
 -- a text that `parse` refuses has no value
 pub unparsed : (kind : Kind) (text : List ℕ) → IsIntegerKind kind → ((IsNumeral 10 (without_leading_sign text) × SFits w64 (number_value text)) → ⊥) → has_value kind text ≡ false
-unparsed kind text int refused = of_integer kind text int ∙ not_true (is_number kind text) (λ h. let p = both (is_numeral (without_leading_sign text)) (is_within (limit_of kind) (number_value text)) h in
+unparsed kind text int refused = of_integer kind text int ∙ false_from_ne_true (is_number kind text) (λ h. let p = and_parts (is_numeral (without_leading_sign text)) (is_within (limit_of kind) (number_value text)) h in
     refused (numeral (without_leading_sign text) p.0, within w64 9223372036854775808 (number_value text) refl (within_wider (limit_of kind) 9223372036854775808 (number_value text) (narrow kind int) p.1)))
 
 -- nor has one that is not UTF-8
 pub no_text : (kind : Kind) (text : List ℕ) → IsIntegerKind kind → (IsUtf8 text → ⊥) → has_value kind text ≡ false
-no_text kind text int bad = of_integer kind text int ∙ not_true (is_number kind text) (λ h. bad (number_utf8 kind text h))
+no_text kind text int bad = of_integer kind text int ∙ false_from_ne_true (is_number kind text) (λ h. bad (number_utf8 kind text h))
 
 -- one that it reads has a value exactly where the number is in range
 pub parsed_value : (kind : Kind) (text : List ℕ) (n : ℤ) → IsIntegerKind kind → IsNumeral 10 (without_leading_sign text) → n ≡ number_value text → has_value kind text ≡ is_within (limit_of kind) n
@@ -101,12 +90,12 @@ printed_by : (n : ℤ) → is_within 9223372036854775808 n ≡ true
     → (b : Bool) → (is_numeral (without_leading_sign (signed_decimal n)) && is_within 9223372036854775808 (number_value (signed_decimal n))) ≡ b
     → IsNumeral 10 (without_leading_sign (signed_decimal n)) × (number_value (signed_decimal n) ≡ n)
 printed_by n small true is = let text : List ℕ = signed_decimal n in let fits : SFits w64 n = within w64 9223372036854775808 n refl small in let f = fits.sfits in
-    let p = both (is_numeral (without_leading_sign text)) (is_within 9223372036854775808 (number_value text)) is in
+    let p = and_parts (is_numeral (without_leading_sign text)) (is_within 9223372036854775808 (number_value text)) is in
     let whole : IsNumeral 10 (without_leading_sign text) = numeral (without_leading_sign text) p.0 in
     let r : ◌≡◌ {A = Result ℤ ℕ} (Ok (number_value text)) (Ok n) = parse-signed_decimal {E = ℕ} w64 n text (Ok (number_value text)) fits (omega arith) refl ((whole, within w64 9223372036854775808 (number_value text) refl p.1), refl) in
     (whole, cc)
 printed_by n small false is = let text : List ℕ = signed_decimal n in let fits : SFits w64 n = within w64 9223372036854775808 n refl small in let f = fits.sfits in
-    let none : (IsNumeral 10 (without_leading_sign text) × SFits w64 (signed_digits_value 10 text)) → ⊥ = (λ h. let t = both_true (is_numeral (without_leading_sign text)) (is_within 9223372036854775808 (number_value text)) (numeral_back (without_leading_sign text) h.0) (within_back w64 9223372036854775808 (number_value text) refl h.1) in absurd (cc)) in
+    let none : (IsNumeral 10 (without_leading_sign text) × SFits w64 (signed_digits_value 10 text)) → ⊥ = (λ h. let t = and_from (is_numeral (without_leading_sign text)) (is_within 9223372036854775808 (number_value text)) (numeral_back (without_leading_sign text) h.0) (within_back w64 9223372036854775808 (number_value text) refl h.1) in absurd (cc)) in
     let r : ◌≡◌ {A = Result ℤ ℕ} (Err 0) (Ok n) = parse-signed_decimal {E = ℕ} w64 n text (Err 0) fits (omega arith) refl none in absurd (cc)
 
 pub printed : (n : ℤ) → is_within 9223372036854775808 n ≡ true → IsNumeral 10 (without_leading_sign (signed_decimal n)) × (number_value (signed_decimal n) ≡ n)
@@ -114,4 +103,4 @@ printed n small = printed_by n small (is_numeral (without_leading_sign (signed_d
 
 pub printed_in : (kind : Kind) (n : ℤ) → IsIntegerKind kind → is_within (limit_of kind) n ≡ true → (has_value kind (signed_decimal n) ≡ true) × (number_value (signed_decimal n) ≡ n)
 printed_in kind n int small = let text : List ℕ = signed_decimal n in let p = printed n (within_wider (limit_of kind) 9223372036854775808 n (narrow kind int) small) in
-    (of_integer kind text int ∙ both_true (is_numeral (without_leading_sign text)) (is_within (limit_of kind) (number_value text)) (numeral_back (without_leading_sign text) p.0) (ap (is_within (limit_of kind)) p.1 ∙ small), p.1)
+    (of_integer kind text int ∙ and_from (is_numeral (without_leading_sign text)) (is_within (limit_of kind) (number_value text)) (numeral_back (without_leading_sign text) p.0) (ap (is_within (limit_of kind)) p.1 ∙ small), p.1)

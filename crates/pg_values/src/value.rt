@@ -3,7 +3,7 @@ ghost use Rattle.std.specs.Prelude.{◌≡◌, ◌≢◌, true, false, IfOk, IfE
 ghost use Rattle.pg_values.specs.Values.{kind_under, IsIntegerKind, has_value, is_within, limit_of, truth_value, number_value, uuid_value, order_of};
 
 use crate::kind::{Kind, kind_of};
-use shape_base::text::Text;
+use shape_base::Text;
 use std::cmp::Ordering;
 use std::str;
 use uuid::Uuid;

@@ -1,7 +1,7 @@
 //! Frames written out by hand, after the PostgreSQL manual, 55.4 and 55.7.
 use super::*;
 use bytes::Bytes;
-use shape_base::text::Text;
+use shape_base::Text;
 use std::alloc::Global;
 use std::test::*;
 

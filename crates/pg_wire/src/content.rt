@@ -9,7 +9,7 @@ ghost use Rattle.pg_wire.specs.Contents.{IsShown, IsAnswer};
 use crate::fields::{sqlstate_at, text_at};
 use crate::frame::FrameError;
 use byte_format::{ReadError, u8_at, u64_at};
-use shape_base::text::{Text, TextError};
+use shape_base::{Text, TextError};
 use std::alloc::Global;
 
 /// What a payload gives. The message of an XLogData stays where it is, behind 25 bytes.

@@ -3,7 +3,7 @@ ghost use Rattle.std.specs.Prelude.{◌≡◌};
 ghost use Rattle.pg_wire.specs.declared.frame.FrameError.TheVariants.{OutOfMemory};
 
 use bytes::Bytes;
-use shape_base::text::Text;
+use shape_base::Text;
 use std::alloc::AllocError;
 
 /// The most that a frame's length may be, which counts itself and the payload and not the type byte.

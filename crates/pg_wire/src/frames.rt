@@ -9,7 +9,7 @@ use crate::content::Content;
 use crate::first::first_of;
 use crate::frame::{Frame, FrameError};
 use bytes::{Bytes, BytesMut};
-use shape_base::memory::OutOfMemory;
+use shape_base::OutOfMemory;
 use std::alloc::{AllocError, Global};
 use std::marker::Model;
 

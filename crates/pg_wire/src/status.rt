@@ -4,7 +4,7 @@ ghost use Rattle.pg_wire.specs.Status.{status_bytes};
 
 use byte_format::{put_u32, put_u64};
 use bytes::Bytes;
-use shape_base::memory::OutOfMemory;
+use shape_base::OutOfMemory;
 use std::alloc::Global;
 
 /// The bytes of a standby status update (PostgreSQL manual, 55.4 Streaming Replication Protocol) in a CopyData frame: written, flushed and applied up to the

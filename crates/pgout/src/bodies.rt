@@ -4,7 +4,7 @@ ghost use Rattle.pgout.specs.Grammar.{tuple, column, begin, logical, commit, ori
 
 use crate::message::{Before, ColumnSent, ColumnsSent, Field, Fields, Message};
 use byte_format::{ReadError, after, chunk_of, list_of, string_of, u8_at, u16_at, u32_at, u64_at};
-use shape_base::row::{Octets, Oids};
+use shape_base::{Octets, Oids};
 use std::alloc::Global;
 
 pub(crate) fn begin_of(bytes: &[u8]) -> Result<(Message, &[u8]), ReadError>

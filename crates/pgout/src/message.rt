@@ -1,6 +1,5 @@
 //! The messages.
-use shape_base::row::{Octets, Oids};
-use shape_base::seq::Seq;
+use shape_base::{Octets, Oids, Seq};
 
 /// A column of a relation, as a Relation message sends it.
 #[derive(PartialEq, Eq, Drop)]

@@ -5,7 +5,7 @@ use crate::message::{ColumnSent, Field};
 use byte_format::{
     Part, ReadError, chunk_of, put_chunk, put_string, put_u32, string_of, u8_at, u32_at,
 };
-use shape_base::row::Octets;
+use shape_base::Octets;
 use std::alloc::{AllocError, Global};
 
 impl Part for Field {

@@ -6,7 +6,7 @@ ghost use Rattle.pgout.specs.Grammar.{Fits, spelled, tuple, column, begin, logic
 use crate::message::{Before, ColumnSent, Field, Message};
 use byte_format::{put_chunk, put_list, put_string, put_u16, put_u32, put_u64};
 use bytes::Bytes;
-use shape_base::memory::OutOfMemory;
+use shape_base::OutOfMemory;
 use std::alloc::{AllocError, Global};
 
 /// A byte that says which row it is, and the row.

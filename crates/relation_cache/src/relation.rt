@@ -1,7 +1,5 @@
 //! A relation.
-use shape_base::memory::{Duplicate, OutOfMemory};
-use shape_base::row::Columns;
-use shape_base::text::Text;
+use shape_base::{Columns, Duplicate, OutOfMemory, Text};
 use std::alloc::Global;
 
 /// A table as the stream describes it (PostgreSQL manual 55.9, message Relation).

@@ -3,7 +3,7 @@ ghost use Rattle.std.specs.Prelude.{◌≡◌, ℕ, Some, None, OnOk, OnErr, Mat
 ghost use Rattle.std.specs.FinMap as map;
 
 use super::relation::Relation;
-use shape_base::memory::OutOfMemory;
+use shape_base::OutOfMemory;
 use std::alloc::Global;
 use std::collections::BTreeMap;
 use std::marker::Model;

@@ -1,13 +1,14 @@
 -- Canonical decimals, and offsets and handles written with them.
 use Rattle.std.proofs.Common.{◌≡◌, ℕ, ◌^◌, ◌<◌, List, [], ◌∷◌, ◌++◌, true, false, refl, sym, ◌∙◌, ap, subst, arith, Result, Ok, Err, decimal, codes}
+use Rattle.std.proofs.lemmas.Bool.{and_parts}
 use Rattle.std.specs.List.{list_all}
 use Rattle.std.specs.Char.{digit_value}
 use Rattle.std.specs.Str.{IsUtf8, IsAscii}
 use Rattle.std.proofs.lemmas.Bool.Decides.{nat_tests}
 use Rattle.std.proofs.lemmas.Str.Ascii.{IsAscii-nil, IsAscii-cons}
 use Rattle.std.proofs.lemmas.Str.{IsUtf8-from_ascii}
-use Rattle.shape_base.specs.declared.row.Offset.{Offset}
-use Rattle.shape_base.specs.declared.row.Offset.TheVariants.{Start, At}
+use Rattle.shape_base.specs.declared.offset.Offset.{Offset}
+use Rattle.shape_base.specs.declared.offset.Offset.TheVariants.{Start, At}
 use Rattle.shape_base.specs.declared.handle.Handle.{Handle}
 use Rattle.shape_base.specs.Decimal.{IsSplit, LacksByte}
 use Rattle.shape_base.specs.OffsetText.{offset_text, IsOffset}
@@ -15,7 +16,7 @@ use Rattle.shape_base.specs.Handle.{is_run_byte, is_run, IsHandle, handle_text}
 use Rattle.std.specs.Str.Parse.{ParsesUnsigned, AllDigits, digits_value}
 use Rattle.std.proofs.lemmas.Fmt.{parse-decimal, decimal_is_IsNumeral}
 use Rattle.shape_base.specs.Tables.{same_text}
-use Rattle.shape_base.proofs.Tests.{Decides-same_text, both_true}
+use Rattle.shape_base.proofs.Tests.{Decides-same_text}
 
 pub never_refused : {E : Type 0} (n : ℕ) (bs : List ℕ) (e : E) → n < 2 ^ 64 → bs ≡ decimal n → ParsesUnsigned {E = E} 64 10 bs (Err e) → ⊥
 never_refused {E} n bs e small is parsed = let r : ◌≡◌ {A = Result ℕ E} (Err e) (Ok n) = parse-decimal {E = E} 64 n bs (Err e) small small is parsed in cc
@@ -101,7 +102,7 @@ run_byte_small b h = grind (arith, nat_tests)
 
 run_ascii : (run : List ℕ) → list_all is_run_byte run ≡ true → IsAscii run
 run_ascii [] h = IsAscii-nil
-run_ascii (b ∷ run) h = let p = both_true (is_run_byte b) _ h in IsAscii-cons b run (run_byte_small b p.0) (run_ascii run p.1)
+run_ascii (b ∷ run) h = let p = and_parts (is_run_byte b) _ h in IsAscii-cons b run (run_byte_small b p.0) (run_ascii run p.1)
 
 pub run_utf8 : (run : List ℕ) → is_run run ≡ true → IsUtf8 run
-run_utf8 run h = IsUtf8-from_ascii run (run_ascii run (both_true _ _ (both_true _ _ h).1).1)
+run_utf8 run h = IsUtf8-from_ascii run (run_ascii run (and_parts _ _ (and_parts _ _ h).1).1)

@@ -1,13 +1,14 @@
 -- A history is good exactly where it is good step by step.
 use Rattle.std.proofs.Common.{◌≡◌, ℕ, zero, suc, ◌+◌, ◌-◌, ◌≤◌, ◌<◌, Bool, true, false, not, List, [], ◌∷◌, length, take, drop, refl, sym, ◌∙◌, ap, subst, arith, Option, None, Some, IfSome, ◌||◌, ◌==◌}
+use Rattle.std.proofs.lemmas.Bool.{false_from_ne_true}
 use Rattle.std.specs.Bool.{if◌then◌else◌, MatchBool}
 use Rattle.std.specs.Option.{option_map}
 use Rattle.std.specs.List.{list_any, slice_get, slice_index_or}
 use Rattle.std.proofs.lemmas.Bool.Decides.{Decides-eqb}
 use Rattle.std.proofs.lemmas.List.FromFn.{length-range_with_len}
 use Rattle.std.proofs.lemmas.List.{length-map}
-use Rattle.shape_base.specs.declared.row.TableDef.{TableDef}
-use Rattle.shape_base.specs.declared.row.Tx.{Tx}
+use Rattle.shape_base.specs.declared.definition.TableDef.{TableDef}
+use Rattle.shape_base.specs.declared.change.Tx.{Tx}
 use Rattle.shape_base.specs.declared.served.Served.{Served}
 use Rattle.shape_base.specs.declared.history.Step.{Step}
 use Rattle.shape_base.specs.declared.history.Step.TheVariants.{Commit, Define}
@@ -15,7 +16,7 @@ use Rattle.shape_base.specs.declared.history.History.{History}
 use Rattle.shape_base.specs.Tables.{Table, Own, changes_of, after_changes, after_steps, def_steps, same_def, AreGoodChanges, AreGoodSteps, FitsDef, since_changes, table_after, def_after, IsGoodTable}
 use Rattle.shape_base.specs.GoodSteps.{changes_otherwise, IsGoodTableByStep}
 use Rattle.shape_base.specs.Laws.{GoodByStep}
-use Rattle.shape_base.proofs.Tests.{Decides-same_def, false_from}
+use Rattle.shape_base.proofs.Tests.{Decides-same_def}
 use Rattle.shape_base.proofs.Steps.{either}
 use Rattle.shape_base.proofs.LogLaw.{GoesOnFrom, goes_on_from, first_had, drop-take_more}
 
@@ -164,7 +165,7 @@ good_from : (served : Served) (t : ℕ) (ss : List Step) (d : TableDef) (rows : 
 good_from served t [] d rows since o = tt
 good_from served t (Commit tx ∷ ss) d rows since o = (o.commits 0 tx refl, good_from served t ss d _ _ (past_commit served t tx ss d rows since o))
 good_from served t (Define x xs ∷ ss) d rows since o = match_from (x.table == t) _ _
-    (λ own. (false_from _ (λ had. let wrong : false ≡ true = o.apart 0 x xs refl own had in cc), o.defines 0 x xs refl own, good_from served t ss x xs (x ∷ since) (past_define served t x xs ss d rows since own o)))
+    (λ own. (false_from_ne_true _ (λ had. let wrong : false ≡ true = o.apart 0 x xs refl own had in cc), o.defines 0 x xs refl own, good_from served t ss x xs (x ∷ since) (past_define served t x xs ss d rows since own o)))
     (λ other. good_from served t ss d rows since (past_other served t x xs ss d rows since other o))
 
 owes_all : (h : History) (t : ℕ) (served : Served) (first : TableDef) → slice_get h.defs t ≡ Some first → IsGoodTableByStep h t served → Owes served t h.steps first (slice_index_or h.base t []) (first ∷ [])

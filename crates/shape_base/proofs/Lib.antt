@@ -2,6 +2,7 @@ pub mod Maps
 pub mod Decimals
 pub mod Pieces
 pub mod Tests
+pub mod Offsets
 pub mod MapLaws
 pub mod KeyText
 pub mod Cells
@@ -13,9 +14,12 @@ pub mod Snapshots
 pub mod LogLaw
 pub mod EndLaw
 pub mod Growing
+pub mod RegistryLaws
 pub mod Rising
 pub mod SameLog
+pub mod Meanings
 pub mod GoodByStep
 pub mod ChunkLaws
 pub mod Example
 pub mod Utf8Key
+pub mod Lemmas

@@ -13,7 +13,7 @@ use Rattle.std.specs.List.{AllByRecursion}
 use Rattle.std.specs.List.Sorted.{IsStrictlySortedBy}
 use Rattle.std.specs.Prelude.{T}
 use Rattle.std.specs.declared.cmp.Ordering.TheVariants.{Less}
-use Rattle.shape_base.specs.declared.row.Cell.{Cell}
+use Rattle.shape_base.specs.declared.entry.Cell.{Cell}
 use Rattle.shape_base.specs.Shape.{Keyed}
 use Rattle.shape_base.specs.Maps.{map_in}
 use Rattle.shape_base.proofs.MapLaws.{text_cmp, exact}

@@ -1,15 +1,16 @@
 -- The offsets of a log rise.
 use Rattle.std.proofs.Common.{◌≡◌, ℕ, ◌+◌, ◌*◌, ◌<◌, ◌≤◌, Bool, true, false, ◌==◌, List, [], ◌∷◌, ◌++◌, drop, refl, sym, subst, arith, append_assoc, Option, None, Some}
+use Rattle.std.proofs.lemmas.Bool.{and_parts, and_from}
 use Rattle.std.specs.Bool.{if◌then◌else◌}
 use Rattle.std.specs.List.{list_any, flat_map, slice_get}
 use Rattle.std.proofs.lemmas.Bool.Decides.{nat_tests}
-use Rattle.shape_base.specs.declared.row.Offset.{Offset}
-use Rattle.shape_base.specs.declared.row.Offset.TheVariants.{Start, At}
-use Rattle.shape_base.specs.declared.row.Cell.{Cell}
-use Rattle.shape_base.specs.declared.row.Entry.{Entry}
-use Rattle.shape_base.specs.declared.row.Change.{Change}
-use Rattle.shape_base.specs.declared.row.ChangeKind.{ChangeKind}
-use Rattle.shape_base.specs.declared.row.TableDef.{TableDef}
+use Rattle.shape_base.specs.declared.offset.Offset.{Offset}
+use Rattle.shape_base.specs.declared.offset.Offset.TheVariants.{Start, At}
+use Rattle.shape_base.specs.declared.entry.Cell.{Cell}
+use Rattle.shape_base.specs.declared.entry.Entry.{Entry}
+use Rattle.shape_base.specs.declared.change.Change.{Change}
+use Rattle.shape_base.specs.declared.change.ChangeKind.{ChangeKind}
+use Rattle.shape_base.specs.declared.definition.TableDef.{TableDef}
 use Rattle.shape_base.specs.declared.history.Step.{Step}
 use Rattle.shape_base.specs.declared.history.Step.TheVariants.{Commit, Define}
 use Rattle.shape_base.specs.declared.history.History.{History}
@@ -18,36 +19,28 @@ use Rattle.shape_base.specs.Shape.{Knows, Keyed, stops, emit, pick, old_of, new_
 use Rattle.shape_base.specs.Log.{later, log_of, start_from}
 use Rattle.shape_base.specs.Offsets.{is_before, rises_after}
 use Rattle.shape_base.specs.Laws.{OffsetsRise}
-use Rattle.shape_base.proofs.Tests.{both_are, both_true}
 use Rattle.shape_base.proofs.EndLaw.{rise_past}
 use Rattle.shape_base.proofs.Growing.{log_front}
+use Rattle.shape_base.proofs.Offsets.{before_trans, rises_front}
 
-before_trans : (a b c : Offset) → is_before a b ≡ true → is_before b c ≡ true → is_before a c ≡ true
-before_trans Start Start c h k = k
-before_trans Start (At b j) Start h k = k
-before_trans Start (At b j) (At c k) h l = refl
-before_trans (At a i) Start c h k = cc
-before_trans (At a i) (At b j) Start h k = k
-before_trans (At a i) (At b j) (At c k) h l = grind (arith, nat_tests)
-
-abbrev lsn_of : Offset → ℕ
+abbrev pub lsn_of : Offset → ℕ
 lsn_of Start = 0
 lsn_of (At lsn pos) = lsn
 
-before_lsn : (o : Offset) (lsn pos : ℕ) → lsn_of o < lsn → is_before o (At lsn pos) ≡ true
+pub before_lsn : (o : Offset) (lsn pos : ℕ) → lsn_of o < lsn → is_before o (At lsn pos) ≡ true
 before_lsn Start lsn pos h = refl
 before_lsn (At a i) lsn pos h = grind (arith, nat_tests)
 
-lsn_before : (o : Offset) (lsn pos : ℕ) → is_before o (At lsn pos) ≡ true → lsn_of o ≤ lsn
+pub lsn_before : (o : Offset) (lsn pos : ℕ) → is_before o (At lsn pos) ≡ true → lsn_of o ≤ lsn
 lsn_before Start lsn pos h = omega arith
 lsn_before (At a i) lsn pos h = grind (arith, nat_tests)
 
-before_pos : (lsn i j : ℕ) → i < j → is_before (At lsn i) (At lsn j) ≡ true
+pub before_pos : (lsn i j : ℕ) → i < j → is_before (At lsn i) (At lsn j) ≡ true
 before_pos lsn i j h = grind (arith, nat_tests)
 
 rise_start : (i : ℕ) (ks : List Keyed) (more : List Entry) → ((o : Offset) → lsn_of o ≤ 0 → rises_after o more ≡ true) → rises_after (At 0 i) (start_from (i + 1) ks ++ more) ≡ true
 rise_start i [] more h = h (At 0 i) (omega arith)
-rise_start i (k ∷ ks) more h = both_are _ _ (before_pos 0 i (i + 1) (omega arith)) (rise_start (i + 1) ks more h)
+rise_start i (k ∷ ks) more h = and_from _ _ (before_pos 0 i (i + 1) (omega arith)) (rise_start (i + 1) ks more h)
 
 -- what comes after a change rises from any offset before the next
 abbrev RisesOn : ℕ → ℕ → List Entry → Type 0
@@ -58,16 +51,16 @@ skip lsn j low h = before_trans low (At lsn (2 * j)) (At lsn (2 * (j + 1))) h (b
 
 rise_update : (lsn j : ℕ) (low : Offset) (key : List ℕ) (cs : List Cell) (more : List Entry) → is_before low (At lsn (2 * j)) ≡ true → RisesOn lsn j more → rises_after low (update_at lsn (2 * j) key cs ++ more) ≡ true
 rise_update lsn j low key [] more h k = k low (skip lsn j low h)
-rise_update lsn j low key (c ∷ cs) more h k = both_are _ _ h (k (At lsn (2 * j)) (before_pos lsn (2 * j) (2 * (j + 1)) (omega arith)))
+rise_update lsn j low key (c ∷ cs) more h k = and_from _ _ h (k (At lsn (2 * j)) (before_pos lsn (2 * j) (2 * (j + 1)) (omega arith)))
 
 rise_both : (lsn j : ℕ) (low : Offset) (o n : Keyed) (b : Bool) (more : List Entry) → same_text o.0 n.0 ≡ b → is_before low (At lsn (2 * j)) ≡ true → RisesOn lsn j more → rises_after low (entries_of lsn j (Some o) (Some n) ++ more) ≡ true
 rise_both lsn j low o n true more e h k = rw e (rise_update lsn j low n.0 (differing o.1 n.1) more h k)
-rise_both lsn j low o n false more e h k = rw e (both_are _ _ h (both_are _ _ (before_pos lsn (2 * j) (2 * j + 1) (omega arith)) (k (At lsn (2 * j + 1)) (before_pos lsn (2 * j + 1) (2 * (j + 1)) (omega arith)))))
+rise_both lsn j low o n false more e h k = rw e (and_from _ _ h (and_from _ _ (before_pos lsn (2 * j) (2 * j + 1) (omega arith)) (k (At lsn (2 * j + 1)) (before_pos lsn (2 * j + 1) (2 * (j + 1)) (omega arith)))))
 
 rise_entries : (lsn j : ℕ) (low : Offset) (o n : Option Keyed) (more : List Entry) → is_before low (At lsn (2 * j)) ≡ true → RisesOn lsn j more → rises_after low (entries_of lsn j o n ++ more) ≡ true
 rise_entries lsn j low None None more h k = k low (skip lsn j low h)
-rise_entries lsn j low None (Some n) more h k = both_are _ _ h (k (At lsn (2 * j)) (before_pos lsn (2 * j) (2 * (j + 1)) (omega arith)))
-rise_entries lsn j low (Some o) None more h k = both_are _ _ h (k (At lsn (2 * j)) (before_pos lsn (2 * j) (2 * (j + 1)) (omega arith)))
+rise_entries lsn j low None (Some n) more h k = and_from _ _ h (k (At lsn (2 * j)) (before_pos lsn (2 * j) (2 * (j + 1)) (omega arith)))
+rise_entries lsn j low (Some o) None more h k = and_from _ _ h (k (At lsn (2 * j)) (before_pos lsn (2 * j) (2 * (j + 1)) (omega arith)))
 rise_entries lsn j low (Some o) (Some n) more h k = rise_both lsn j low o n (same_text o.0 n.0) more refl h k
 
 rise_if : (s : Knows) (lsn j : ℕ) (low : Offset) (x : Own) (b : Bool) (rest : List Own) (more : List Entry) → x.number ≡ j → is_before low (At lsn (2 * j)) ≡ true → RisesOn lsn j (flat_map (emit s lsn) rest ++ more) → rises_after low (flat_map (emit s lsn) (if b then x ∷ rest else rest) ++ more) ≡ true
@@ -93,11 +86,7 @@ rise_later s (Commit tx ∷ ss) base h o le = stop_or_rise (list_any (stops s) (
     (rise_own s s.definition.table tx.lsn tx.defs 0 tx.changes o (later s ss) (before_lsn o tx.lsn (2 * 0) (omega (arith, h.0, le))) (λ x less. rise_later s ss tx.lsn h.1 x less))
 rise_later s (Define d rows ∷ ss) base h o le = rise_later s ss base h o le
 
-rises_front : (o : Offset) (es fs : List Entry) → rises_after o (es ++ fs) ≡ true → rises_after o es ≡ true
-rises_front o [] fs h = refl
-rises_front o (e ∷ es) fs h = both_are _ _ (both_true _ _ h).0 (rises_front e.offset es fs (both_true (is_before o e.offset) _ h).1)
-
-whole_rises : (h : History) (s : Knows) (snapshot : Table) (k : ℕ) → RiseFrom 0 h.steps → rises_after (At 0 0) (start_from 1 (shown s snapshot) ++ later s (drop k h.steps)) ≡ true
+pub whole_rises : (h : History) (s : Knows) (snapshot : Table) (k : ℕ) → RiseFrom 0 h.steps → rises_after (At 0 0) (start_from 1 (shown s snapshot) ++ later s (drop k h.steps)) ≡ true
 whole_rises h s snapshot k rise = rise_start 0 (shown s snapshot) (later s (drop k h.steps)) (λ o le. rise_later s (drop k h.steps) 0 (rise_past k 0 h.steps rise) o le)
 
 pub offsets_rise : OffsetsRise

@@ -4,8 +4,8 @@ use Rattle.std.specs.Prelude.{nat_le}
 use Rattle.std.specs.Bool.{if◌then◌else◌}
 use Rattle.std.specs.List.{list_any, flat_map, slice_get}
 use Rattle.std.proofs.lemmas.Bool.Decides.{nat_tests}
-use Rattle.shape_base.specs.declared.row.Entry.{Entry}
-use Rattle.shape_base.specs.declared.row.Tx.{Tx}
+use Rattle.shape_base.specs.declared.entry.Entry.{Entry}
+use Rattle.shape_base.specs.declared.change.Tx.{Tx}
 use Rattle.shape_base.specs.declared.history.Step.{Step}
 use Rattle.shape_base.specs.declared.history.Step.TheVariants.{Commit, Define}
 use Rattle.shape_base.specs.declared.history.History.{History}

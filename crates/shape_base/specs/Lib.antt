@@ -5,9 +5,11 @@ pub mod OffsetText
 pub mod Offsets
 pub mod Outside
 pub mod Tables
+pub mod Transactions
 pub mod GoodSteps
 pub mod Visibility
 pub mod Snapshot
+pub mod RegistryHistory
 pub mod Shape
 pub mod Log
 pub mod Chunks

@@ -2,7 +2,7 @@
 use Rattle.std.specs.Prelude.{ℕ, List}
 use Rattle.std.specs.BTreeMap.{BTreeMap}
 use Rattle.std.specs.FinMap as fin
-use Rattle.shape_base.specs.declared.row.Cell.{Cell}
+use Rattle.shape_base.specs.declared.entry.Cell.{Cell}
 use Rattle.shape_base.specs.Shape.{Map}
 
 -- the rows by their key texts

@@ -1,7 +1,7 @@
 -- The texts of offsets.
 use Rattle.std.specs.Prelude.{ℕ, ◌<◌, ◌^◌, List, ◌∷◌, ◌++◌, codes, decimal}
-use Rattle.shape_base.specs.declared.row.Offset.{Offset}
-use Rattle.shape_base.specs.declared.row.Offset.TheVariants.{Start, At}
+use Rattle.shape_base.specs.declared.offset.Offset.{Offset}
+use Rattle.shape_base.specs.declared.offset.Offset.TheVariants.{Start, At}
 
 -- -1, or the two numbers in decimal, joined by _
 abbrev pub offset_text : Offset → List ℕ

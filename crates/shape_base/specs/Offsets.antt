@@ -1,8 +1,8 @@
 -- The order of offsets in a log.
 use Rattle.std.specs.Prelude.{Bool, true, false, ◌&&◌, ◌||◌, ◌==◌, nat_lt, if◌then◌else◌, List, [], ◌∷◌}
-use Rattle.shape_base.specs.declared.row.Offset.{Offset}
-use Rattle.shape_base.specs.declared.row.Offset.TheVariants.{Start, At}
-use Rattle.shape_base.specs.declared.row.Entry.{Entry}
+use Rattle.shape_base.specs.declared.offset.Offset.{Offset}
+use Rattle.shape_base.specs.declared.offset.Offset.TheVariants.{Start, At}
+use Rattle.shape_base.specs.declared.entry.Entry.{Entry}
 
 -- The start is before every other offset; otherwise the LSN decides, and then the place.
 abbrev pub is_before : Offset → Offset → Bool
@@ -24,3 +24,8 @@ upto o (e ∷ es) = if is_before o e.offset then [] else e ∷ upto o es
 abbrev pub past : Offset → List Entry → List Entry
 past o [] = []
 past o (e ∷ es) = if is_before o e.offset then e ∷ es else past o es
+
+-- an asked offset as the end of a page without entries
+abbrev pub end_from : Offset → Offset
+end_from Start = At 0 0
+end_from (At lsn pos) = At lsn pos

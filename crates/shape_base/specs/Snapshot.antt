@@ -1,9 +1,9 @@
 -- Snapshots of a table, and what they owe a history.
 use Rattle.std.specs.Prelude.{◌≡◌, ℕ, zero, suc, ◌+◌, ◌<◌, ◌≤◌, nat_le, Bool, true, false, List, length, take, Option, None, Some, IsSome, IfSome, slice_get}
 use Rattle.std.specs.List.Sorted.{IsPermutation}
-use Rattle.shape_base.specs.declared.row.Column.{Column}
-use Rattle.shape_base.specs.declared.row.TableDef.{TableDef}
-use Rattle.shape_base.specs.declared.row.Tx.{Tx}
+use Rattle.shape_base.specs.declared.definition.Column.{Column}
+use Rattle.shape_base.specs.declared.definition.TableDef.{TableDef}
+use Rattle.shape_base.specs.declared.change.Tx.{Tx}
 use Rattle.shape_base.specs.declared.history.History.{History}
 use Rattle.shape_base.specs.Tables.{Table, table_after, def_after, commits_of}
 use Rattle.shape_base.specs.Visibility.{Visibility, is_visible}

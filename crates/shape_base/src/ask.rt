@@ -3,8 +3,8 @@ ghost use Rattle.std.specs.Prelude.{◌≡◌, IfOk};
 
 use super::handle::Handle;
 use super::memory::{Duplicate, OutOfMemory};
-use super::row::{Offset, Texts};
-use super::text::Text;
+use super::offset::Offset;
+use super::text::{Text, Texts};
 use std::alloc::Global;
 
 /// The handle that a request names.
@@ -46,22 +46,12 @@ impl Duplicate for Named {
     }
 }
 
-/// A copy of what may be absent.
-fn copy_present<T: Duplicate>(item: &Option<T>, alloc: Global) -> Result<Option<T>, OutOfMemory>
-    ensures { IfOk result (λ made. made ≡ item.now) }
-{
-    match item {
-        Some(present) => Ok(Some(present.copy(alloc)?)),
-        None => Ok(None),
-    }
-}
-
 impl Duplicate for Ask {
     fn copy(&self, alloc: Global) -> Result<Ask, OutOfMemory> {
         Ok(Ask {
             table: self.table,
-            columns: copy_present(&self.columns, alloc)?,
-            clause: copy_present(&self.clause, alloc)?,
+            columns: self.columns.copy(alloc)?,
+            clause: self.clause.copy(alloc)?,
             identity: self.identity.copy(alloc)?,
             named: self.named.copy(alloc)?,
             offset: self.offset,

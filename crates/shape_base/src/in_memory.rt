@@ -20,6 +20,7 @@ pub struct MemorySource {
 }
 
 impl MemorySource {
+    /// A source of these bytes that gives at most `piece` of them in a call.
     pub fn new(bytes: Vec<u8>, piece: usize, failing: Vec<u64>) -> MemorySource
         requires { 0 < piece }
         ensures left { drop result.at result.bytes.items ≡ bytes.items }
@@ -88,6 +89,7 @@ pub struct MemorySink {
 }
 
 impl MemorySink {
+    /// A sink to which nothing was written.
     pub fn new(alloc: Global, failing: Vec<u64>) -> MemorySink
         ensures bytes { result.bytes.items ≡ [] }
         ensures failing { result.failing ≡ failing }

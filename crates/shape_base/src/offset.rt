@@ -1,14 +1,22 @@
-//! Offsets as texts, and their order.
+//! Offsets: places in logs.
 ghost use Rattle.std.specs.Prelude.{◌≡◌, IfOk, OnErr};
-ghost use Rattle.shape_base.specs.declared.row.Offset.{Offset};
+ghost use Rattle.shape_base.specs.declared.offset.Offset.{Offset};
 ghost use Rattle.shape_base.specs.Offsets.{is_before};
 ghost use Rattle.shape_base.specs.OffsetText.{offset_text, IsOffset};
 
 use super::decimal::{read_decimal, split_at_first};
 use super::memory::OutOfMemory;
-use super::row::Offset;
 use super::text::Text;
 use std::alloc::Global;
+
+/// A place in a log: behind the entry that has this offset, or before all entries.
+#[derive(Clone, Copy, Debug, PartialEq, Eq)]
+pub enum Offset {
+    /// Before the snapshot.
+    Start,
+    /// Entry `pos` of the commit with that LSN; LSN 0 stands for the snapshot, whose entries count from 1.
+    At { lsn: u64, pos: u64 },
+}
 
 /// A text that is no offset's.
 #[derive(Clone, Copy, Debug, PartialEq, Eq)]

@@ -1,14 +1,15 @@
 -- Columns by their names.
 use Rattle.std.proofs.Common.{◌≡◌, ℕ, zero, suc, ◌+◌, ◌<◌, Bool, true, false, cond, List, [], ◌∷◌, ◌++◌, length, drop, get_or, refl, sym, ◌∙◌, ap, subst, arith, zero-add, add-one, drop-cons, append_assoc, Option, None, Some, is_some, ◌||◌}
+use Rattle.std.proofs.lemmas.Bool.{or_left, or_right, or_from}
 use Rattle.std.specs.Bool.{if◌then◌else◌}
 use Rattle.std.specs.Option.{option_map}
 use Rattle.std.specs.BTreeMap as tree
 use Rattle.std.specs.BTreeMap.{BTreeMap, is_at}
 use Rattle.std.specs.BTreeSet.{BTreeSet}
 use Rattle.std.specs.Map.{lookup}
-use Rattle.shape_base.specs.declared.row.Column.{Column}
+use Rattle.shape_base.specs.declared.definition.Column.{Column}
 use Rattle.shape_base.specs.Tables.{same_text, place_of}
-use Rattle.shape_base.proofs.MapLaws.{text_cmp}
+use Rattle.shape_base.proofs.Lemmas.{text_cmp}
 use Rattle.shape_def.specs.Identity.{Names, in_order}
 use Rattle.shape_def.specs.Indexed.{place_in, IsIndex, is_in}
 use Rattle.shape_def.specs.Definition.{has_name_twice, is_chosen, places_from}
@@ -42,16 +43,6 @@ is_some-moved : (i : ℕ) (o : Option ℕ) → is_some (moved i o) ≡ is_some o
 is_some-moved i None = refl
 is_some-moved i (Some p) = refl
 
-neither : (a b : Bool) → a ≡ false → b ≡ false → (a || b) ≡ false
-neither a b h k = rw (h, k) refl
-
-first_of_two : (a b : Bool) → a ≡ true → (a || b) ≡ true
-first_of_two a b h = rw h refl
-
-second_of_two : (a b : Bool) → b ≡ true → (a || b) ≡ true
-second_of_two true b h = refl
-second_of_two false b h = h
-
 -- whether a later column has the name
 later_has : (cs : List Column) (i j : ℕ) (c : Column) (m : BTreeMap (List ℕ) ℕ) (k : List ℕ) (later : Option ℕ) → i ≡ j + 1 → k ≡ c.name → later ≡ tree.get text_cmp m k
     → ((q : List ℕ) → place_in m q ≡ moved i (place_of (drop i cs) q)) → is_some (place_of (drop (j + 1) cs) c.name) ≡ is_some later
@@ -61,17 +52,17 @@ later_has cs i j c m k later next key found before =
 pub once_earlier : (cs : List Column) (i j : ℕ) (c : Column) (m : BTreeMap (List ℕ) ℕ) (k : List ℕ) (later : Option ℕ) → j < length cs → i ≡ j + 1 → c ≡ get_or cs j c → k ≡ c.name → later ≡ tree.get text_cmp m k
     → ((q : List ℕ) → place_in m q ≡ moved i (place_of (drop i cs) q)) → is_some later ≡ false → has_name_twice (drop i cs) ≡ false → has_name_twice (drop j cs) ≡ false
 once_earlier cs i j c m k later lt next is key found before none once =
-    ap has_name_twice (cut_at cs j c lt is) ∙ neither _ _ (later_has cs i j c m k later next key found before ∙ none) (ap (λ x. has_name_twice (drop x cs)) (sym next) ∙ once)
+    ap has_name_twice (cut_at cs j c lt is) ∙ or_from _ _ (later_has cs i j c m k later next key found before ∙ none) (ap (λ x. has_name_twice (drop x cs)) (sym next) ∙ once)
 
 twice_dropped : (cs : List Column) (j : ℕ) → has_name_twice (drop j cs) ≡ true → has_name_twice cs ≡ true
 twice_dropped cs zero h = h
 twice_dropped [] (suc j) h = h
-twice_dropped (c ∷ cs) (suc j) h = second_of_two _ _ (twice_dropped cs j h)
+twice_dropped (c ∷ cs) (suc j) h = or_right _ _ (twice_dropped cs j h)
 
 pub twice_found : (cs : List Column) (i j : ℕ) (c : Column) (m : BTreeMap (List ℕ) ℕ) (k : List ℕ) (later : Option ℕ) → j < length cs → i ≡ j + 1 → c ≡ get_or cs j c → k ≡ c.name → later ≡ tree.get text_cmp m k
     → ((q : List ℕ) → place_in m q ≡ moved i (place_of (drop i cs) q)) → is_some later ≡ true → has_name_twice cs ≡ true
 twice_found cs i j c m k later lt next is key found before some =
-    twice_dropped cs j (ap has_name_twice (cut_at cs j c lt is) ∙ first_of_two _ _ (later_has cs i j c m k later next key found before ∙ some))
+    twice_dropped cs j (ap has_name_twice (cut_at cs j c lt is) ∙ or_left _ _ (later_has cs i j c m k later next key found before ∙ some))
 
 unmoved : (o : Option ℕ) → moved 0 o ≡ o
 unmoved None = refl

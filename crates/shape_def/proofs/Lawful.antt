@@ -1,17 +1,18 @@
 -- The laws of a definition's test.
 use Rattle.std.proofs.Common.{◌≡◌, ◌≢◌, ℕ, zero, suc, ◌+◌, ◌<◌, ◌≤◌, Bool, true, false, not, List, [], ◌∷◌, length, map, drop, get_or, refl, sym, ◌∙◌, ap, subst, arith, zero-add, Option, None, Some, is_some, ◌||◌, ◌&&◌, ◌==◌}
+use Rattle.std.proofs.lemmas.Bool.{false_from_ne_true, and_from, or_parts}
 use Rattle.std.specs.Prelude.{nat_le, nat_lt, AllPairs}
 use Rattle.std.specs.Bool.{if◌then◌else◌}
 use Rattle.std.specs.Option.{option_map}
 use Rattle.std.specs.List.{list_any, list_all, AllByRecursion, IsDistinct}
 use Rattle.std.proofs.lemmas.Bool.Decides.{nat_tests, Decides-eqb}
-use Rattle.shape_base.specs.declared.row.Column.{Column}
-use Rattle.shape_base.specs.declared.row.TableDef.{TableDef}
+use Rattle.shape_base.specs.declared.definition.Column.{Column}
+use Rattle.shape_base.specs.declared.definition.TableDef.{TableDef}
 use Rattle.shape_base.specs.declared.served.Served.{Served}
 use Rattle.shape_base.specs.Visibility.{rise_between}
 use Rattle.shape_base.specs.Tables.{same_text, place_of, places_of, with_place, key_places}
 use Rattle.shape_base.specs.Shape.{IsTest, name_at}
-use Rattle.shape_base.proofs.Tests.{Decides-same_text, false_from}
+use Rattle.shape_base.proofs.Lemmas.{Decides-same_text}
 use Rattle.shape_def.specs.Identity.{Names}
 use Rattle.shape_def.specs.Definition.{has_name_twice, places_from, leaves_out, knows_of}
 
@@ -49,7 +50,7 @@ apart_from cs a p names [] h e apart = tt
 apart_from cs a p [] (q ∷ qs) h e apart = cc
 apart_from cs a p (b ∷ names) (q ∷ qs) h e apart =
     let parts = with_both (place_of cs b) (places_of cs names) q qs e in
-    (false_from (p == q) (λ is. apart 0 [] (omega arith) (one_place cs a b q (h ∙ ap Some ((Decides-eqb p q).0 is)) parts.0)), apart_from cs a p names qs h parts.1 (λ k d lt. apart (suc k) d (omega (arith, lt))))
+    (false_from_ne_true (p == q) (λ is. apart 0 [] (omega arith) (one_place cs a b q (h ∙ ap Some ((Decides-eqb p q).0 is)) parts.0)), apart_from cs a p names qs h parts.1 (λ k d lt. apart (suc k) d (omega (arith, lt))))
 
 distinct_places : (cs : List Column) (names : Names) (key : List ℕ) → AllPairs (λ x y. x ≢ y) names → places_of cs names ≡ Some key → IsDistinct (λ p q. p == q) key
 unfolding IsDistinct
@@ -104,9 +105,6 @@ not_left : (a b : Bool) → (not a || b) ≡ false → (a ≡ true) × (b ≡ fa
 not_left true b h = (refl, h)
 not_left false b h = cc
 
-and_both : (a b : Bool) → a ≡ true → b ≡ true → (a && b) ≡ true
-and_both a b h k = rw (h, k) refl
-
 key_among : (passes : List ℕ → Bool) (cs : List Column) (names : Names) (key : List ℕ) → places_of cs names ≡ Some key → leaves_out passes names ≡ false → list_all (λ p. list_any (λ q. p == q) (places_from passes 0 cs)) key ≡ true
 key_among passes cs names [] e all = refl
 key_among passes cs [] (q ∷ qs) e all = cc
@@ -114,7 +112,7 @@ key_among passes cs (b ∷ names) (q ∷ qs) e all =
     let parts = with_both (place_of cs b) (places_of cs names) q qs e in
     let both = not_left (passes b) (leaves_out passes names) all in
     let same : q + 0 ≡ q = omega arith in
-    and_both _ _ (subst (λ m. list_any (λ r. m == r) (places_from passes 0 cs) ≡ true) same (among passes cs b q 0 parts.0 both.0)) (key_among passes cs names qs parts.1 both.1)
+    and_from _ _ (subst (λ m. list_any (λ r. m == r) (places_from passes 0 cs) ≡ true) same (among passes cs b q 0 parts.0 both.0)) (key_among passes cs names qs parts.1 both.1)
 
 -- ---- no two selected columns have one name
 
@@ -136,10 +134,6 @@ kept_apart : (passes : List ℕ → Bool) (cs : List Column) (a : List ℕ) → 
 kept_apart passes [] a h = tt
 kept_apart passes (c ∷ cs) a h = let parts = place_none a c.name (place_of cs a) (same_text a c.name) refl h in all_step (passes c.name) a c.name (kept passes cs) parts.0 (kept_apart passes cs a parts.1)
 
-or_false : (a b : Bool) → (a || b) ≡ false → (a ≡ false) × (b ≡ false)
-or_false true b h = cc
-or_false false b h = (refl, h)
-
 distinct_step : (b : Bool) (n : List ℕ) (rest : Names) → AllByRecursion (λ y. same_text n y ≡ false) rest → IsDistinct same_text rest → IsDistinct same_text (if b then n ∷ rest else rest)
 unfolding IsDistinct
 distinct_step true n rest h k = (h, k)
@@ -151,7 +145,7 @@ no_names = tt
 
 kept_distinct : (passes : List ℕ → Bool) (cs : List Column) → has_name_twice cs ≡ false → IsDistinct same_text (kept passes cs)
 kept_distinct passes [] h = no_names
-kept_distinct passes (c ∷ cs) h = let parts = or_false (is_some (place_of cs c.name)) (has_name_twice cs) h in distinct_step (passes c.name) c.name (kept passes cs) (kept_apart passes cs c.name parts.0) (kept_distinct passes cs parts.1)
+kept_distinct passes (c ∷ cs) h = let parts = or_parts (is_some (place_of cs c.name)) (has_name_twice cs) h in distinct_step (passes c.name) c.name (kept passes cs) (kept_apart passes cs c.name parts.0) (kept_distinct passes cs parts.1)
 
 names_step : (b : Bool) (d : TableDef) (i : ℕ) (n : List ℕ) (rest : List ℕ) (names : Names) → name_at d i ≡ n → map (name_at d) rest ≡ names → map (name_at d) (if b then i ∷ rest else rest) ≡ (if b then n ∷ names else names)
 names_step true d i n rest names h k = let tails : map (name_at d) rest ≡ names = k in λ j. h j ∷ tails j

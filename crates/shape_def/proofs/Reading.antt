@@ -1,9 +1,9 @@
 -- What parsing and checking say of a clause's text.
 use Rattle.std.proofs.Common.{◌≡◌, ℕ, List, length, refl, sym, ◌∙◌, ap, subst, Option, None, Some, Result, Ok, Err, MatchResult}
 use Rattle.std.specs.Option.{option_map}
-use Rattle.shape_base.specs.declared.row.Column.{Column}
-use Rattle.shape_base.specs.declared.row.Tri.{Tri}
-use Rattle.shape_base.specs.declared.row.Tri.TheVariants.{True}
+use Rattle.shape_base.specs.declared.definition.Column.{Column}
+use Rattle.shape_base.specs.declared.truth.Tri.{Tri}
+use Rattle.shape_base.specs.declared.truth.Tri.TheVariants.{True}
 use Rattle.shape_base.specs.declared.row_test.BadValue.{BadValue}
 use Rattle.shape_base.specs.Tables.{Values}
 use Rattle.shape_base.specs.Shape.{IsLeast}

@@ -11,8 +11,7 @@ use Rattle.std.specs.declared.cmp.Ordering.{Ordering}
 use Rattle.std.specs.declared.cmp.Ordering.TheVariants.{Less, Equal, Greater}
 use Rattle.std.proofs.lemmas.Map.Lookups.{btree_set_from_contains}
 use Rattle.shape_base.specs.Tables.{same_text}
-use Rattle.shape_base.proofs.MapLaws.{text_cmp, exact, tied, same_from_tied, tied_self}
-use Rattle.shape_base.proofs.Tests.{Decides-same_text}
+use Rattle.shape_base.proofs.Lemmas.{text_cmp, exact, tied, same_from_tied, tied_self, Decides-same_text}
 use Rattle.shape_def.specs.Identity.{Names, in_order, IsSameSet}
 
 -- whether a name is among names

@@ -2,7 +2,7 @@
 use Rattle.std.proofs.Common.{◌≡◌, ℕ, List, [], ◌∷◌, ◌++◌, refl, sym, ◌∙◌, ap, arith, append_assoc, Option, None, Some}
 use Rattle.std.specs.Prelude.{codes}
 use Rattle.shape_base.specs.Shape.{quoted}
-use Rattle.shape_base.proofs.KeyText.{IsApart, quoted_split}
+use Rattle.shape_base.proofs.Lemmas.{IsApart, quoted_split}
 use Rattle.shape_def.specs.Identity.{Names, Shape, in_order, behind_commas, joined, columns_part, clause_part, identity, IsSameChoice, IsSameShape, IdentitiesTell}
 use Rattle.shape_def.proofs.Sets.{order_from_set, set_from_order}
 

@@ -6,7 +6,7 @@ use Rattle.std.specs.Str.{IsUtf8}
 use Rattle.std.proofs.lemmas.Str.{IsUtf8-append, IsUtf8-from_ascii}
 use Rattle.std.proofs.lemmas.Str.Ascii.{IsAscii-cons, IsAscii-nil}
 use Rattle.shape_base.specs.Shape.{quoted}
-use Rattle.shape_base.proofs.Utf8Key.{IsUtf8-quoted}
+use Rattle.shape_base.proofs.Lemmas.{IsUtf8-quoted}
 use Rattle.shape_def.specs.Identity.{Names, behind_commas, joined}
 
 one_ascii : (b : ℕ) → b < 128 → IsUtf8 (b ∷ [])

@@ -1,7 +1,7 @@
 -- A definition of a table with a clause over its columns.
 use Rattle.std.specs.Prelude.{◌≡◌, ℕ, List, Option, None, Some, Ok}
-use Rattle.shape_base.specs.declared.row.Column.{Column}
-use Rattle.shape_base.specs.declared.row.TableDef.{TableDef}
+use Rattle.shape_base.specs.declared.definition.Column.{Column}
+use Rattle.shape_base.specs.declared.definition.TableDef.{TableDef}
 use Rattle.where_grammar.specs.Tree.{Tree}
 use Rattle.where_eval.specs.declared.checked.Checked.{Checked}
 use Rattle.where_eval.specs.Checked.{IsChecked}

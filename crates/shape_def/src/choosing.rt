@@ -6,9 +6,7 @@ ghost use Rattle.shape_def.specs.Definition.{is_chosen, places_from, leaves_out,
 use crate::faults::DefError;
 use crate::identities::name_set;
 use crate::index::{Index, has_strange_name};
-use shape_base::memory::OutOfMemory;
-use shape_base::row::{Columns, Places, Texts};
-use shape_base::text::Text;
+use shape_base::{Columns, OutOfMemory, Places, Text, Texts};
 use std::alloc::Global;
 use std::collections::BTreeSet;
 

@@ -8,10 +8,7 @@ ghost use Rattle.shape_def.specs.Definition.{IsRefusal};
 ghost use Rattle.shape_def.specs.Held.{IsHeldFor};
 
 use crate::faults::DefError;
-use shape_base::memory::{Duplicate, OutOfMemory};
-use shape_base::row::{Columns, Row, TableDef, Tri};
-use shape_base::row_test::BadValue;
-use shape_base::text::Text;
+use shape_base::{BadValue, Columns, Duplicate, OutOfMemory, Row, TableDef, Text, Tri};
 use std::alloc::Global;
 use std::marker::Model;
 use std::sync::Arc;

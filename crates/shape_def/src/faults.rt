@@ -1,5 +1,5 @@
 //! Why a request has no definition.
-use shape_base::memory::OutOfMemory;
+use shape_base::OutOfMemory;
 use where_eval::faults::CheckError;
 use where_parser::parse::ParseError;
 

@@ -5,11 +5,7 @@ ghost use Rattle.std.specs.Str.{IsUtf8};
 ghost use Rattle.shape_base.specs.Shape.{quoted};
 ghost use Rattle.shape_def.specs.Identity.{in_order, joined, columns_part, clause_part, identity};
 
-use shape_base::memory::{Duplicate, OutOfMemory};
-use shape_base::quote::push_quoted;
-use shape_base::row::Texts;
-use shape_base::served::Served;
-use shape_base::text::Text;
+use shape_base::{Duplicate, OutOfMemory, Served, Text, Texts, push_quoted};
 use std::alloc::Global;
 use std::collections::BTreeSet;
 

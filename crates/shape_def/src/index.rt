@@ -5,9 +5,7 @@ ghost use Rattle.std.specs.List.{list_any};
 ghost use Rattle.shape_def.specs.Indexed.{place_in, places_in, IsIndex};
 ghost use Rattle.shape_def.specs.Definition.{has_name_twice, has_strange_name};
 
-use shape_base::memory::{Duplicate, OutOfMemory};
-use shape_base::row::{Columns, Places, Texts};
-use shape_base::text::Text;
+use shape_base::{Columns, Duplicate, OutOfMemory, Places, Text, Texts};
 use std::alloc::Global;
 use std::collections::BTreeMap;
 

@@ -3,15 +3,14 @@ use Rattle.std.proofs.Common.{◌≡◌, ℕ, zero, suc, ◌+◌, ◌-◌, ◌<�
 use Rattle.std.specs.Prelude.{not, slice_get}
 use Rattle.std.specs.List.{AllWithin}
 use Rattle.std.specs.List.Sorted.{IsPartitionedBy, IsPartitionPoint}
-use Rattle.shape_base.specs.declared.row.Offset.{Offset}
-use Rattle.shape_base.specs.declared.row.Offset.TheVariants.{Start, At}
-use Rattle.shape_base.specs.declared.row.Entry.{Entry}
+use Rattle.shape_base.specs.declared.offset.Offset.{Offset}
+use Rattle.shape_base.specs.declared.offset.Offset.TheVariants.{Start, At}
+use Rattle.shape_base.specs.declared.entry.Entry.{Entry}
 use Rattle.shape_base.specs.Offsets.{is_before, rises_after, upto, past}
 use Rattle.shape_base.specs.Log.{last_offset}
 use Rattle.shape_log.specs.Logged.{IsBound}
-use Rattle.shape_base.proofs.Tests.{both_true, both_are, false_from}
 use Rattle.std.proofs.lemmas.Bool.Decides.{nat_tests}
-use Rattle.std.proofs.lemmas.Bool.{cases_lt}
+use Rattle.std.proofs.lemmas.Bool.{cases_lt, and_parts, and_from, false_from_ne_true}
 
 pub last_is : (o : Offset) (es : List Entry) (e : Entry) → slice_get es (length es - 1) ≡ Some e → e.offset ≡ last_offset o es
 last_is o [] e h = cc
@@ -21,8 +20,8 @@ last_is o (x ∷ y ∷ es) e h =
     last_is x.offset (y ∷ es) e (subst (λ (n : ℕ). slice_get (x ∷ y ∷ es) n ≡ Some e) next h)
 
 pub rises_more : (o : Offset) (es : List Entry) (e : Entry) → rises_after o es ≡ true → is_before (last_offset o es) e.offset ≡ true → rises_after o (es ++ e ∷ []) ≡ true
-rises_more o [] e h k = both_are _ _ k refl
-rises_more o (x ∷ es) e h k = let p = both_true (is_before o x.offset) _ h in both_are _ _ p.0 (rises_more x.offset es e p.1 k)
+rises_more o [] e h k = and_from _ _ k refl
+rises_more o (x ∷ es) e h k = let p = and_parts (is_before o x.offset) _ h in and_from _ _ p.0 (rises_more x.offset es e p.1 k)
 
 -- ---- a cut at an offset
 
@@ -39,14 +38,14 @@ is_upto o e = not (is_before o e.offset)
 
 above : (o : Offset) (es : List Entry) → rises_after o es ≡ true → (j : ℕ) (d : Entry) → j < length es → is_before o (get_or es j d).offset ≡ true
 above o [] h j d lt = absurd (omega arith)
-above o (x ∷ es) h zero d lt = (both_true (is_before o x.offset) _ h).0
-above o (x ∷ es) h (suc j) d lt = let p = both_true (is_before o x.offset) _ h in before_trans o x.offset _ p.0 (above x.offset es p.1 j d (omega arith))
+above o (x ∷ es) h zero d lt = (and_parts (is_before o x.offset) _ h).0
+above o (x ∷ es) h (suc j) d lt = let p = and_parts (is_before o x.offset) _ h in before_trans o x.offset _ p.0 (above x.offset es p.1 j d (omega arith))
 
 increasing : (o : Offset) (es : List Entry) → rises_after o es ≡ true → (i j : ℕ) (d : Entry) → i < j → j < length es → is_before (get_or es i d).offset (get_or es j d).offset ≡ true
 increasing o [] h i j d lt le = absurd (omega arith)
 increasing o (x ∷ es) h i zero d lt le = absurd (omega arith)
-increasing o (x ∷ es) h zero (suc j) d lt le = above x.offset es (both_true (is_before o x.offset) _ h).1 j d (omega arith)
-increasing o (x ∷ es) h (suc i) (suc j) d lt le = increasing x.offset es (both_true (is_before o x.offset) _ h).1 i j d (omega arith) (omega arith)
+increasing o (x ∷ es) h zero (suc j) d lt le = above x.offset es (and_parts (is_before o x.offset) _ h).1 j d (omega arith)
+increasing o (x ∷ es) h (suc i) (suc j) d lt le = increasing x.offset es (and_parts (is_before o x.offset) _ h).1 i j d (omega arith) (omega arith)
 
 not_true : (b : Bool) → not b ≡ true → b ≡ false
 not_true true h = cc
@@ -57,7 +56,7 @@ not_false true h = refl
 not_false false h = cc
 
 before_later : (o a b : Offset) → is_before a b ≡ true → not (is_before o b) ≡ true → not (is_before o a) ≡ true
-before_later o a b h k = ap not (false_from (is_before o a) (λ t. let u = before_trans o a b t h in let v = not_true _ k in cc))
+before_later o a b h k = ap not (false_from_ne_true (is_before o a) (λ t. let u = before_trans o a b t h in let v = not_true _ k in cc))
 
 earlier : (o from : Offset) (es : List Entry) → rises_after from es ≡ true → (i j : ℕ) (d : Entry) → i ≤ j → j < length es → (i < j) ⊎ (j ≤ i) → is_upto o (get_or es j d) ≡ true → is_upto o (get_or es i d) ≡ true
 earlier o from es h i j d up le (inl lt) k = before_later o _ _ (increasing from es h i j d lt le) k

@@ -1,6 +1,6 @@
 -- What each log keeps.
 use Rattle.std.specs.Prelude.{◌≡◌, ◌+◌, ◌≤◌, true, vec_len, vec_capacity}
-use Rattle.shape_base.specs.declared.row.Offset.TheVariants.{At}
+use Rattle.shape_base.specs.declared.offset.Offset.TheVariants.{At}
 use Rattle.shape_base.specs.Offsets.{rises_after}
 use Rattle.shape_log.specs.declared.log.Log.TheInside.{Inside}
 

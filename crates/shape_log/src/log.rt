@@ -4,8 +4,7 @@ ghost use Rattle.shape_base.specs.Offsets.{is_before};
 ghost use Rattle.shape_base.specs.Log.{end_of};
 ghost use Rattle.shape_log.specs.Logged.{IsBound};
 
-use shape_base::memory::OutOfMemory;
-use shape_base::row::{Entry, Offset};
+use shape_base::{Entry, Offset, OutOfMemory};
 use std::alloc::Global;
 use std::marker::Model;
 

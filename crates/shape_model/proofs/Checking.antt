@@ -4,9 +4,9 @@ use Rattle.std.specs.Bool.{if◌then◌else◌}
 use Rattle.std.specs.Option.{option_map, option_and_then}
 use Rattle.std.specs.List.{list_any, slice_get}
 use Rattle.std.proofs.lemmas.List.{take_more}
-use Rattle.shape_base.specs.declared.row.TableDef.{TableDef}
-use Rattle.shape_base.specs.declared.row.Change.{Change}
-use Rattle.shape_base.specs.declared.row.ChangeKind.{ChangeKind}
+use Rattle.shape_base.specs.declared.definition.TableDef.{TableDef}
+use Rattle.shape_base.specs.declared.change.Change.{Change}
+use Rattle.shape_base.specs.declared.change.ChangeKind.{ChangeKind}
 use Rattle.shape_base.specs.declared.served.Served.{Served}
 use Rattle.shape_base.specs.declared.history.Step.{Step}
 use Rattle.shape_base.specs.Tables.{Table, Own, own_of, own_from, since_changes}

@@ -1,18 +1,18 @@
 -- The checks decide what a good table owes.
 use Rattle.std.proofs.Common.{◌≡◌, ℕ, ◌∷◌, [], Bool, true, false, List, length, map, refl, sym, ◌∙◌, ap, subst, ◌==◌, ◌||◌, ◌&&◌, Option, None, Some, IfSome}
+use Rattle.std.proofs.lemmas.Bool.{false_from_ne_true}
 use Rattle.std.specs.Bool.{if◌then◌else◌, MatchBool}
 use Rattle.std.specs.Option.{option_map, option_and_then}
 use Rattle.std.specs.List.{list_any, AllByRecursion, IsDistinct, flat_map}
 use Rattle.std.proofs.lemmas.Bool.Decides.{Decides-eqb}
-use Rattle.shape_base.specs.declared.row.TableDef.{TableDef}
-use Rattle.shape_base.specs.declared.row.ChangeKind.{ChangeKind}
-use Rattle.shape_base.specs.declared.row.ChangeKind.TheVariants.{Insert, Update, Delete, Truncate}
+use Rattle.shape_base.specs.declared.definition.TableDef.{TableDef}
+use Rattle.shape_base.specs.declared.change.ChangeKind.{ChangeKind}
+use Rattle.shape_base.specs.declared.change.ChangeKind.TheVariants.{Insert, Update, Delete, Truncate}
 use Rattle.shape_base.specs.declared.served.Served.{Served}
 use Rattle.shape_base.specs.declared.history.Step.{Step}
 use Rattle.shape_base.specs.declared.history.Step.TheVariants.{Commit, Define}
 use Rattle.shape_base.specs.Tables.{Values, Table, Own, same_text, same_row, same_def, changed, changes_of, after_changes, since_changes, key_places, key_values, lacks_key, IsKeyed, FitsDef, IsOldThere, AreGoodChanges, AreGoodSteps}
-use Rattle.shape_base.proofs.Tests.{Decides-same_text, Decides-same_row, Decides-same_def, false_from}
-use Rattle.shape_base.proofs.KeyText.{values_tell}
+use Rattle.shape_base.proofs.Lemmas.{Decides-same_text, Decides-same_row, Decides-same_def, values_tell}
 use Rattle.shape_model.specs.declared.checks.Standing.{Standing}
 use Rattle.shape_model.specs.Checks.{value_text, values_text, are_new, are_keyed, fit_key, are_wide, fit_def, is_old_there, check_change, check_changes, check_define, check_steps}
 
@@ -46,13 +46,13 @@ abbrev AreOther : List ℕ → Values → Table → Type 0
 AreOther key row rows = AllByRecursion (λ v. same_row (key_values key row) v ≡ false) (map (key_values key) rows)
 
 rows_differ : (key : List ℕ) (row other : Values) → same_text (values_text key other) (values_text key row) ≡ false → same_row (key_values key row) (key_values key other) ≡ false
-rows_differ key row other h = false_from _ (λ t.
+rows_differ key row other h = false_from_ne_true _ (λ t.
     let same : key_values key row ≡ key_values key other = (Decides-same_row _ _).0 t in
     let texts : values_text key other ≡ values_text key row = ap (flat_map value_text) (sym same) in
     let is : same_text (values_text key other) (values_text key row) ≡ true = (Decides-same_text _ _).1 texts in cc)
 
 texts_differ : (key : List ℕ) (row other : Values) → lacks_key key row ≡ false → lacks_key key other ≡ false → same_row (key_values key row) (key_values key other) ≡ false → same_text (values_text key other) (values_text key row) ≡ false
-texts_differ key row other given too h = false_from _ (λ t.
+texts_differ key row other given too h = false_from_ne_true _ (λ t.
     let same : key_values key other ≡ key_values key row = values_tell key other row too given ((Decides-same_text _ _).0 t) in
     let is : same_row (key_values key row) (key_values key other) ≡ true = (Decides-same_row _ _).1 (sym same) in cc)
 

@@ -5,15 +5,13 @@ use Rattle.std.specs.Option.{option_and_then}
 use Rattle.std.specs.Bool.{if◌then◌else◌}
 use Rattle.std.specs.BTreeMap as tree
 use Rattle.std.specs.FinMap as fin
-use Rattle.shape_base.specs.declared.row.Cell.{Cell}
-use Rattle.shape_base.specs.declared.row.Entry.{Entry}
-use Rattle.shape_base.specs.declared.row.Op.TheVariants.{Update}
+use Rattle.shape_base.specs.declared.entry.Cell.{Cell}
+use Rattle.shape_base.specs.declared.entry.Entry.{Entry}
+use Rattle.shape_base.specs.declared.entry.Op.TheVariants.{Update}
 use Rattle.shape_base.specs.Shape.{Map}
 use Rattle.shape_base.specs.Log.{fold, fold_from, fold_op, replaced}
-use Rattle.shape_base.proofs.MapLaws.{text_cmp}
-use Rattle.shape_base.proofs.Commits.{fold_from-append}
+use Rattle.shape_base.proofs.Lemmas.{text_cmp, fold_from-append, Texts, get_in}
 use Rattle.shape_base.specs.Maps.{map_in}
-use Rattle.shape_base.proofs.Maps.{Texts, get_in}
 
 pub insert_done : (m n : Texts) (k : List ℕ) (v : List Cell) → is_some (tree.get text_cmp m k) ≡ false → map_in n ≡ fin.insert (map_in m) k v → (if is_some (fin.get (map_in m) k) then None else Some (fin.insert (map_in m) k v)) ≡ Some (map_in n)
 insert_done m n k v h is = rw (get_in m k) (rw h (ap Some (sym is)))

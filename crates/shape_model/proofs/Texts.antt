@@ -10,9 +10,7 @@ use Rattle.std.specs.Cmp.{eq_by_cmp_equiv}
 use Rattle.std.specs.Cmp.Lexicographic.{nat_list_cmp_total}
 use Rattle.shape_base.specs.Tables.{Values, Table, same_text}
 use Rattle.shape_base.specs.Shape.{quoted}
-use Rattle.shape_base.proofs.MapLaws.{text_cmp, tied, same_from_tied, tied_self}
-use Rattle.shape_base.proofs.Tests.{Decides-same_text}
-use Rattle.shape_base.proofs.Utf8Key.{IsUtf8-quoted}
+use Rattle.shape_base.proofs.Lemmas.{text_cmp, tied, same_from_tied, tied_self, Decides-same_text, IsUtf8-quoted}
 use Rattle.shape_model.specs.Checks.{are_new, values_text}
 
 slash_is : encodes (47 ∷ []) ≡ 47 ∷ []

@@ -2,12 +2,12 @@
 use Rattle.std.specs.Prelude.{ℕ, Bool, true, false, ◌||◌, ◌==◌, if◌then◌else◌, List, [], ◌∷◌, length, map, Option, None, Some, slice_get}
 use Rattle.std.specs.Option.{option_map, option_and_then}
 use Rattle.std.specs.List.{list_any, list_all, flat_map}
-use Rattle.shape_base.specs.declared.row.Value.{Value}
-use Rattle.shape_base.specs.declared.row.TableDef.{TableDef}
-use Rattle.shape_base.specs.declared.row.Change.{Change}
-use Rattle.shape_base.specs.declared.row.Tx.{Tx}
-use Rattle.shape_base.specs.declared.row.ChangeKind.{ChangeKind}
-use Rattle.shape_base.specs.declared.row.ChangeKind.TheVariants.{Insert, Update, Delete, Truncate}
+use Rattle.shape_base.specs.declared.value.Value.{Value}
+use Rattle.shape_base.specs.declared.definition.TableDef.{TableDef}
+use Rattle.shape_base.specs.declared.change.Change.{Change}
+use Rattle.shape_base.specs.declared.change.Tx.{Tx}
+use Rattle.shape_base.specs.declared.change.ChangeKind.{ChangeKind}
+use Rattle.shape_base.specs.declared.change.ChangeKind.TheVariants.{Insert, Update, Delete, Truncate}
 use Rattle.shape_base.specs.declared.served.Served.{Served}
 use Rattle.shape_base.specs.declared.history.Step.{Step}
 use Rattle.shape_base.specs.declared.history.Step.TheVariants.{Commit, Define}

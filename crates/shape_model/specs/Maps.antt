@@ -2,8 +2,8 @@
 use Rattle.std.specs.Prelude.{◌≡◌, ◌+◌, ◌<◌, List, map, take, Some, None, IsSome, length}
 use Rattle.std.specs.Option.{option_map}
 use Rattle.std.specs.FinMap as fin
-use Rattle.shape_base.specs.declared.row.Entry.{Entry}
-use Rattle.shape_base.specs.declared.row.KeyedRow.{KeyedRow}
+use Rattle.shape_base.specs.declared.entry.Entry.{Entry}
+use Rattle.shape_base.specs.declared.entry.KeyedRow.{KeyedRow}
 use Rattle.shape_base.specs.Shape.{Keyed}
 use Rattle.shape_base.specs.Log.{fold}
 use Rattle.shape_model.specs.declared.folds.ModelError.{ModelError}

@@ -1,7 +1,7 @@
 //! Checks of one table of a history, step by step.
 ghost use Rattle.std.specs.Prelude.{◌≡◌, ◌+◌, ◌<◌, ◌≤◌, [], ◌∷◌, length, take, IfOk, IfSome, IsSome, None, MatchOption, List, slice_get, true, false, if◌then◌else◌};
 ghost use Rattle.std.specs.List.{list_any};
-ghost use Rattle.shape_base.specs.declared.row.TableDef.{TableDef};
+ghost use Rattle.shape_base.specs.declared.definition.TableDef.{TableDef};
 ghost use Rattle.shape_base.specs.Tables.{same_row, same_def, changes_of, own_of, since_changes};
 ghost use Rattle.shape_model.specs.Checks.{check_change, check_changes, check_define, check_steps};
 ghost use Rattle.shape_model.specs.Checks as specs;
@@ -9,11 +9,10 @@ ghost use Rattle.shape_base.specs.declared.history.Step.TheVariants.{Commit};
 
 use super::keys::fit_def;
 use super::tables::after_change;
-use shape_base::history::{Step, Steps};
-use shape_base::memory::{Duplicate, OutOfMemory};
-use shape_base::row::{Change, ChangeKind, Row, Rows, TableDef, TableDefs, Tx};
-use shape_base::same::{are_same_defs, are_same_rows};
-use shape_base::served::Served;
+use shape_base::{
+    Change, ChangeKind, Duplicate, OutOfMemory, Row, Rows, Served, Step, Steps, TableDef,
+    TableDefs, Tx, are_same_defs, are_same_rows,
+};
 use std::alloc::Global;
 
 /// How a table stands: its definition, its rows, and the definitions since its last change.

@@ -4,14 +4,14 @@ ghost use Rattle.std.specs.Option.{option_copied};
 ghost use Rattle.std.specs.FinMap as fin;
 ghost use Rattle.shape_base.specs.Log.{fold_op, value_in, replaced};
 ghost use Rattle.shape_base.specs.Log as log;
-ghost use Rattle.shape_base.specs.declared.row.Op.TheVariants.{Insert, Update, Delete};
+ghost use Rattle.shape_base.specs.declared.entry.Op.TheVariants.{Insert, Update, Delete};
 ghost use Rattle.shape_base.specs.Maps.{map_in};
 ghost use Rattle.shape_model.specs.Maps.{pairs_of, Folds, FailsAt};
 
-use shape_base::memory::{Duplicate, OutOfMemory};
-use shape_base::row::{Cell, Cells, Entries, Entry, KeyedRow, KeyedRows, Op, Value};
-use shape_base::same::are_same_texts;
-use shape_base::text::Text;
+use shape_base::{
+    Cell, Cells, Duplicate, Entries, Entry, KeyedRow, KeyedRows, Op, OutOfMemory, Text, Value,
+    are_same_texts,
+};
 use std::alloc::Global;
 use std::collections::BTreeMap;
 

@@ -2,16 +2,14 @@
 ghost use Rattle.std.specs.Prelude.{◌≡◌, ◌<◌, ◌≤◌, ◌+◌, OnOk, IfOk, IfErr, IsSome, None, MatchOption, length, take, slice_get};
 ghost use Rattle.std.specs.List.{list_all};
 ghost use Rattle.shape_base.specs.Tables.{IsGoodHistory};
-ghost use Rattle.shape_base.specs.declared.row.Change.{Change};
+ghost use Rattle.shape_base.specs.declared.change.Change.{Change};
 ghost use Rattle.shape_model.specs.Breaks.{BreaksAt, IsGoodTo, IsGoodAt};
 ghost use Rattle.shape_model.specs.Order as order;
 ghost use Rattle.shape_model.specs.Order.{check_orders};
 
 use super::checks::{Standing, good_steps, one};
 use super::keys::fit_def;
-use shape_base::history::{History, Step, Steps};
-use shape_base::memory::{Duplicate, OutOfMemory};
-use shape_base::row::{Change, TableDefs, Tx};
+use shape_base::{Change, Duplicate, History, OutOfMemory, Step, Steps, TableDefs, Tx};
 use std::alloc::Global;
 
 /// A history that is not good.

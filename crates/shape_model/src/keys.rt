@@ -2,18 +2,16 @@
 ghost use Rattle.std.specs.Prelude.{◌≡◌, ◌++◌, IfOk, OnOk, map, false};
 ghost use Rattle.std.specs.List.{list_any, slice_index_or};
 ghost use Rattle.std.specs.Str.{IsUtf8};
-ghost use Rattle.shape_base.specs.declared.row.Value.TheVariants.{Null};
+ghost use Rattle.shape_base.specs.declared.value.Value.TheVariants.{Null};
 ghost use Rattle.shape_base.specs.Tables.{is_null, places_of};
 ghost use Rattle.shape_base.specs.Tables as tables;
 ghost use Rattle.shape_model.specs.Checks as checks;
 ghost use Rattle.shape_model.specs.Checks.{value_text};
 
-use shape_base::memory::OutOfMemory;
-use shape_base::quote::push_quoted;
-use shape_base::row::{Columns, Numbers, Row, Rows, TableDef, Texts, Value};
-use shape_base::same::are_same_texts;
-use shape_base::served::Served;
-use shape_base::text::Text;
+use shape_base::{
+    Columns, Numbers, OutOfMemory, Row, Rows, Served, TableDef, Text, Texts, Value, are_same_texts,
+    push_quoted,
+};
 use std::alloc::Global;
 use std::collections::BTreeMap;
 

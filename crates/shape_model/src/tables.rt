@@ -3,10 +3,9 @@ ghost use Rattle.std.specs.Prelude.{◌≡◌, ℕ, suc, ◌<◌, ◌≤◌, ◌
 ghost use Rattle.shape_base.specs.Tables.{Values, Table, in_place, changed, changes_of, own_of, after_changes, after_step};
 ghost use Rattle.shape_base.specs.Tables as Tables;
 
-use shape_base::history::{History, Step};
-use shape_base::memory::{Duplicate, OutOfMemory};
-use shape_base::row::{Change, ChangeKind, Row, Rows, Tx};
-use shape_base::same::are_same_rows;
+use shape_base::{
+    Change, ChangeKind, Duplicate, History, OutOfMemory, Row, Rows, Step, Tx, are_same_rows,
+};
 use std::alloc::Global;
 
 /// The place of the first row that is equal to `old`.

@@ -6,13 +6,12 @@ use Rattle.std.specs.List.{flat_map}
 use Rattle.std.proofs.lemmas.List.{append-nil}
 use Rattle.std.specs.FinMap as fin
 use Rattle.std.specs.BTreeMap.{BTreeMap, IsOrdered}
-use Rattle.shape_base.specs.declared.row.Cell.{Cell}
-use Rattle.shape_base.specs.declared.row.Offset.{Offset}
+use Rattle.shape_base.specs.declared.entry.Cell.{Cell}
+use Rattle.shape_base.specs.declared.offset.Offset.{Offset}
 use Rattle.shape_base.specs.Outside.{AddsFront}
 use Rattle.shape_base.specs.Shape.{Keyed}
 use Rattle.shape_base.specs.Maps.{map_in}
-use Rattle.shape_base.proofs.MapLaws.{text_cmp}
-use Rattle.shape_base.proofs.Maps.{entries_in}
+use Rattle.shape_base.proofs.Lemmas.{text_cmp, entries_in}
 use Rattle.shape_replay.specs.declared.stop.Stop.{Stop}
 use Rattle.shape_replay.specs.declared.stop.Stop.TheVariants as stops
 use Rattle.shape_replay.specs.declared.stop.ScriptCause.TheVariants.{NotBuilt}

@@ -4,8 +4,8 @@ use Rattle.std.specs.Prelude.{slice_get, if◌then◌else◌}
 use Rattle.std.specs.List.{list_all, AllByRecursion}
 use Rattle.std.proofs.lemmas.List.{append-nil}
 use Rattle.pgout.specs.declared.message.Message.{Message}
-use Rattle.shape_base.specs.declared.row.Offset.TheVariants.{At}
-use Rattle.shape_base.specs.declared.row.Entry.{Entry}
+use Rattle.shape_base.specs.declared.offset.Offset.TheVariants.{At}
+use Rattle.shape_base.specs.declared.entry.Entry.{Entry}
 use Rattle.shape_base.specs.declared.served.Served.{Served}
 use Rattle.shape_base.specs.declared.history.History.{History}
 use Rattle.shape_base.specs.Tables.{same_text}
@@ -24,7 +24,7 @@ use Rattle.shape_replay.specs.Tabled.{Tabled}
 use Rattle.shape_replay.specs.Profile.{table_of, query_of}
 use Rattle.shape_replay.specs.Stream.{start, streamed}
 use Rattle.std.specs.FinMap as fin
-use Rattle.shape_base.specs.declared.row.Tx.{Tx}
+use Rattle.shape_base.specs.declared.change.Tx.{Tx}
 use Rattle.shape_base.specs.Tables.{table_after}
 use Rattle.shape_base.specs.Shape.{Knows, Map, shape_rows}
 use Rattle.shape_base.specs.Log.{fold_from, entries_past}

@@ -1,5 +1,6 @@
 -- Folding a part of a log into the rows of a client, and undoing it.
 use Rattle.std.proofs.Common.{◌≡◌, ℕ, zero, suc, ◌+◌, ◌-◌, ◌<◌, ◌≤◌, Bool, true, false, cond, List, [], ◌∷◌, ◌++◌, take, drop, refl, sym, ◌∙◌, ap, subst, arith, Option, None, Some, is_some}
+use Rattle.std.proofs.lemmas.Bool.{and_parts}
 use Rattle.std.specs.Prelude.{slice_get}
 use Rattle.std.proofs.lemmas.List.{drop-drop}
 use Rattle.std.proofs.Math.Seq.{take-add}
@@ -8,19 +9,16 @@ use Rattle.std.specs.Option.{option_and_then}
 use Rattle.std.specs.FinMap as fin
 use Rattle.std.specs.BTreeMap as tree
 use Rattle.std.specs.BTreeMap.{BTreeMap}
-use Rattle.shape_base.specs.declared.row.Cell.{Cell}
-use Rattle.shape_base.specs.declared.row.Offset.{Offset}
-use Rattle.shape_base.specs.declared.row.Op.{Op}
-use Rattle.shape_base.specs.declared.row.Op.TheVariants.{Insert, Update, Delete}
-use Rattle.shape_base.specs.declared.row.Entry.{Entry}
+use Rattle.shape_base.specs.declared.entry.Cell.{Cell}
+use Rattle.shape_base.specs.declared.offset.Offset.{Offset}
+use Rattle.shape_base.specs.declared.entry.Op.{Op}
+use Rattle.shape_base.specs.declared.entry.Op.TheVariants.{Insert, Update, Delete}
+use Rattle.shape_base.specs.declared.entry.Entry.{Entry}
 use Rattle.shape_base.specs.Shape.{Map}
 use Rattle.shape_base.specs.Maps.{map_in}
 use Rattle.shape_base.specs.Log.{fold_op, fold_from, last_offset}
 use Rattle.std.specs.Cmp.Lexicographic.{nat_list_cmp_total}
-use Rattle.shape_base.proofs.MapLaws.{text_cmp, tied, same_from_tied, exact, insert_twice, remove_inserted}
-use Rattle.shape_base.proofs.Commits.{fold_from-append}
-use Rattle.shape_base.proofs.Maps.{get_in}
-use Rattle.shape_base.proofs.Tests.{both_true}
+use Rattle.shape_base.proofs.Lemmas.{text_cmp, tied, same_from_tied, exact, insert_twice, remove_inserted, fold_from-append, get_in}
 use Rattle.shape_replay.specs.Folding.{is_insert, are_inserts}
 
 -- ---- a part of a log
@@ -73,8 +71,8 @@ insert_op Delete h = cc
 -- each entry of such a log is an insert
 pub at_insert : (log : List Entry) (place : ℕ) (e : Entry) → are_inserts log ≡ true → slice_get log place ≡ Some e → e.op ≡ Insert
 at_insert [] place e h k = cc
-at_insert (x ∷ log) zero e h k = let same : x ≡ e = cc in ap (λ (y : Entry). y.op) (sym same) ∙ insert_op x.op (both_true _ _ h).0
-at_insert (x ∷ log) (suc place) e h k = at_insert log place e (both_true (is_insert x.op) _ h).1 k
+at_insert (x ∷ log) zero e h k = let same : x ≡ e = cc in ap (λ (y : Entry). y.op) (sym same) ∙ insert_op x.op (and_parts _ _ h).0
+at_insert (x ∷ log) (suc place) e h k = at_insert log place e (and_parts (is_insert x.op) _ h).1 k
 
 none_from : {A : Type 0} (o : Option A) → is_some o ≡ false → o ≡ None
 none_from None h = refl

@@ -3,10 +3,10 @@ use Rattle.std.proofs.Common.{◌≡◌, ℕ, zero, suc, ◌+◌, ◌<◌, ◌�
 use Rattle.std.specs.Prelude.{◌&&◌, ◌==◌, slice_get, if◌then◌else◌, is_some}
 use Rattle.std.specs.Option.{option_map}
 use Rattle.std.proofs.lemmas.List.{length-append, append-nil}
-use Rattle.shape_base.specs.declared.row.Offset.{Offset}
-use Rattle.shape_base.specs.declared.row.Offset.TheVariants.{Start, At}
-use Rattle.shape_base.specs.declared.row.Entry.{Entry}
-use Rattle.shape_base.specs.declared.row.Tx.{Tx}
+use Rattle.shape_base.specs.declared.offset.Offset.{Offset}
+use Rattle.shape_base.specs.declared.offset.Offset.TheVariants.{Start, At}
+use Rattle.shape_base.specs.declared.entry.Entry.{Entry}
+use Rattle.shape_base.specs.declared.change.Tx.{Tx}
 use Rattle.shape_base.specs.Offsets.{is_before, rises_after, upto}
 use Rattle.shape_base.specs.Shape.{Knows}
 use Rattle.shape_base.specs.Log.{fold, end_of, entries_past}

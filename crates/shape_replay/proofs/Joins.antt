@@ -1,17 +1,17 @@
 -- What a message does to a stream that is at the end of a log or past it.
 use Rattle.std.proofs.Common.{◌≡◌, ℕ, ◌+◌, ◌*◌, ◌<◌, ◌≤◌, Bool, true, false, List, [], ◌∷◌, ◌++◌, refl, sym, subst, arith, Option, None, Some}
+use Rattle.std.proofs.lemmas.Bool.{and_parts, and_from}
 use Rattle.std.specs.Prelude.{◌&&◌, ◌==◌, nat_lt, is_none, if◌then◌else◌}
 use Rattle.std.specs.Option.{option_map}
 use Rattle.std.proofs.lemmas.Bool.Decides.{nat_tests, Decides-eqb}
 use Rattle.pgout.specs.declared.message.Message.{Message}
 use Rattle.pgout.specs.declared.message.Message.TheVariants.{Begin, Commit, Origin, TypeName, Relation, Insert, Update, Delete, Truncate, Logical}
-use Rattle.shape_base.specs.declared.row.Offset.{Offset}
-use Rattle.shape_base.specs.declared.row.Offset.TheVariants.{Start, At}
-use Rattle.shape_base.specs.declared.row.Entry.{Entry}
+use Rattle.shape_base.specs.declared.offset.Offset.{Offset}
+use Rattle.shape_base.specs.declared.offset.Offset.TheVariants.{Start, At}
+use Rattle.shape_base.specs.declared.entry.Entry.{Entry}
 use Rattle.shape_base.specs.Tables.{Values}
 use Rattle.shape_base.specs.Offsets.{is_before, rises_after}
 use Rattle.shape_base.specs.Log.{last_offset}
-use Rattle.shape_base.proofs.Tests.{both_true, both_are}
 use Rattle.shape_replay.specs.declared.stream.Pending.{Pending}
 use Rattle.shape_replay.specs.declared.stream.Stream.{Stream}
 use Rattle.shape_replay.specs.declared.stream.Step.{Step}
@@ -60,8 +60,8 @@ relation_joins_by end s x true a h = quiet end _ x (record { past = a.past; pend
 relation_joins_by end s x false a h = cc
 
 rises_more : (o : Offset) (es : List Entry) (e : Entry) → rises_after o es ≡ true → is_before (last_offset o es) e.offset ≡ true → rises_after o (es ++ e ∷ []) ≡ true
-rises_more o [] e h k = both_are _ _ k refl
-rises_more o (x ∷ es) e h k = let p = both_true (is_before o x.offset) _ h in both_are _ _ p.0 (rises_more x.offset es e p.1 k)
+rises_more o [] e h k = and_from _ _ k refl
+rises_more o (x ∷ es) e h k = let p = and_parts (is_before o x.offset) _ h in and_from _ _ p.0 (rises_more x.offset es e p.1 k)
 
 pub last_more : (o : Offset) (es : List Entry) (e : Entry) → last_offset o (es ++ e ∷ []) ≡ e.offset
 last_more o [] e = refl
@@ -69,7 +69,7 @@ last_more o (x ∷ es) e = last_more x.offset es e
 
 inserts_more : (es : List Entry) (e : Entry) → are_inserts es ≡ true → are_inserts (e ∷ []) ≡ true → are_inserts (es ++ e ∷ []) ≡ true
 inserts_more [] e h k = k
-inserts_more (x ∷ es) e h k = let p = both_true _ _ h in both_are _ _ p.0 (inserts_more es e p.1 k)
+inserts_more (x ∷ es) e h k = let p = and_parts _ _ h in and_from _ _ p.0 (inserts_more es e p.1 k)
 
 next_room : (lsn count : ℕ) → is_before (At lsn (2 * count)) (At lsn (2 * (count + 1))) ≡ true
 next_room lsn count = grind (arith, nat_tests)

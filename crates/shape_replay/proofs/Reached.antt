@@ -2,13 +2,13 @@
 use Rattle.std.proofs.Common.{◌≡◌, ℕ, zero, suc, ◌+◌, ◌<◌, ◌≤◌, true, false, List, [], ◌∷◌, ◌++◌, length, take, map, refl, sym, ap, subst, ◌∙◌, arith, inl, inr, Option, Some, None}
 use Rattle.std.specs.Prelude.{◌%◌, not, nat_lt, nat_le, slice_get, if◌then◌else◌, IsSome}
 use Rattle.std.specs.List.{list_any, AllByRecursion, range_with_len, filter, flat_map}
-use Rattle.std.proofs.lemmas.Bool.{cases_lt}
+use Rattle.std.proofs.lemmas.Bool.{cases_lt, and_parts}
 use Rattle.std.proofs.lemmas.Bool.Decides.{nat_tests}
-use Rattle.shape_base.specs.declared.row.Entry.{Entry}
-use Rattle.shape_base.specs.declared.row.TableDef.{TableDef}
-use Rattle.shape_base.specs.declared.row.Change.{Change}
-use Rattle.shape_base.specs.declared.row.ChangeKind.{ChangeKind}
-use Rattle.shape_base.specs.declared.row.Tx.{Tx}
+use Rattle.shape_base.specs.declared.entry.Entry.{Entry}
+use Rattle.shape_base.specs.declared.definition.TableDef.{TableDef}
+use Rattle.shape_base.specs.declared.change.Change.{Change}
+use Rattle.shape_base.specs.declared.change.ChangeKind.{ChangeKind}
+use Rattle.shape_base.specs.declared.change.Tx.{Tx}
 use Rattle.shape_base.specs.declared.served.Served.{Served}
 use Rattle.shape_base.specs.declared.history.History.{History}
 use Rattle.shape_base.specs.Tables.{Own, own_of, own_from, changes_of, table_after, commits_of}
@@ -16,12 +16,9 @@ use Rattle.shape_base.specs.Visibility.{full, is_visible, is_visible_id}
 use Rattle.shape_base.specs.Snapshot.{IsTakenAt, IsHonest}
 use Rattle.shape_base.specs.Shape.{Knows, Map, emit, stops, shape_rows}
 use Rattle.shape_base.specs.Log.{fold, log_of, unseen, entries_past, point}
-use Rattle.shape_base.proofs.LogLaw.{log_fold}
-use Rattle.shape_base.proofs.SameLog.{same_log}
-use Rattle.shape_base.proofs.Growing.{point_rises}
-use Rattle.shape_base.proofs.ChunkLaws.{full_is}
-use Rattle.shape_base.proofs.Tests.{both_true}
-use Rattle.tx_assembler.specs.Shown.{shown, meaning, Shows}
+use Rattle.shape_base.proofs.Lemmas.{log_fold, same_log, point_rises, full_is}
+use Rattle.tx_assembler.specs.Shown.{shown, Shows}
+use Rattle.shape_base.specs.Transactions.{meaning}
 use Rattle.shape_replay.specs.Script.{Item}
 use Rattle.shape_replay.specs.Tabled.{Tabled}
 use Rattle.shape_replay.specs.Stream.{is_unseen}
@@ -42,7 +39,7 @@ seen_by x low high =
     ap (is_visible_id (record { xmin = 1; xmax = 1; listed = [] })) id ∙ rw not_less refl
 
 not_seen : (x : ℕ) → is_unseen x ≡ true → is_visible (record { xmin = 1; xmax = 1; listed = [] }) x ≡ false
-not_seen x h = let p = both_true (nat_le 1 x) _ h in seen_by x (grind (arith, nat_tests, p.0)) (grind (arith, nat_tests, p.1))
+not_seen x h = let p = and_parts (nat_le 1 x) _ h in seen_by x (grind (arith, nat_tests, p.0)) (grind (arith, nat_tests, p.1))
 
 all_unseen : (txs : List Tx) → AllByRecursion (λ (tx : Tx). is_unseen tx.xid ≡ true) txs → unseen (record { xmin = 1; xmax = 1; listed = [] }) txs ≡ txs
 all_unseen [] h = refl

@@ -1,20 +1,20 @@
 -- The steps of a script from its snapshot on.
 use Rattle.std.proofs.Common.{◌≡◌, ℕ, zero, suc, ◌≤◌, Bool, true, false, List, [], ◌∷◌, ◌++◌, length, map, refl, sym, ap, subst, ◌∙◌, arith, ◌⊎◌, inl, inr, Option, Some, None}
+use Rattle.std.proofs.lemmas.Bool.{and_parts, and_from}
 use Rattle.std.specs.Prelude.{◌==◌, slice_get, is_none, if◌then◌else◌}
 use Rattle.std.specs.List.{list_all}
 use Rattle.std.specs.Option.{option_map}
 use Rattle.std.specs.FinMap as fin
 use Rattle.pgout.specs.declared.message.Message.{Message}
-use Rattle.shape_base.specs.declared.row.Offset.{Offset}
-use Rattle.shape_base.specs.declared.row.Offset.TheVariants.{Start, At}
-use Rattle.shape_base.specs.declared.row.Entry.{Entry}
-use Rattle.shape_base.specs.declared.row.Tx.{Tx}
+use Rattle.shape_base.specs.declared.offset.Offset.{Offset}
+use Rattle.shape_base.specs.declared.offset.Offset.TheVariants.{Start, At}
+use Rattle.shape_base.specs.declared.entry.Entry.{Entry}
+use Rattle.shape_base.specs.declared.change.Tx.{Tx}
 use Rattle.shape_base.specs.declared.served.Served.{Served}
 use Rattle.shape_base.specs.declared.history.History.{History}
 use Rattle.shape_base.specs.Offsets.{rises_after}
 use Rattle.shape_base.specs.Shape.{Map}
 use Rattle.shape_base.specs.Log.{fold, fold_from, end_of, entries_past}
-use Rattle.shape_base.proofs.Tests.{both_true, both_are}
 use Rattle.tx_assembler.specs.Shown.{shown, or_else}
 use Rattle.shape_replay.specs.declared.record.Record.{Record}
 use Rattle.shape_replay.specs.declared.record.Record.TheVariants as records
@@ -45,8 +45,8 @@ use Rattle.shape_replay.proofs.Courses.{Place, Blank, Declared, Met, Asked, Read
 -- ---- a reply is taken
 
 all_answered : (closed : List Exchange) (x : Exchange) → list_all is_answered closed ≡ true → is_answered x ≡ true → list_all is_answered (closed ++ x ∷ []) ≡ true
-all_answered [] x h k = both_are _ _ k refl
-all_answered (y ∷ closed) x h k = let p = both_true (is_answered y) _ h in both_are _ _ p.0 (all_answered closed x p.1 k)
+all_answered [] x h k = and_from _ _ k refl
+all_answered (y ∷ closed) x h k = let p = and_parts (is_answered y) _ h in and_from _ _ p.0 (all_answered closed x p.1 k)
 
 is_some_of : (x : Exchange) (page : Page) → x.reply ≡ Some page → is_answered x ≡ true
 is_some_of x page e = rw e refl

@@ -1,5 +1,6 @@
 -- What the messages of the first profile show.
 use Rattle.std.proofs.Common.{◌≡◌, ℕ, suc, ◌+◌, ◌*◌, ◌<◌, ◌≤◌, max, Bool, true, false, List, [], ◌∷◌, ◌++◌, length, map, refl, sym, ap, subst, ◌∙◌, arith, append_assoc, Option, Some, None}
+use Rattle.std.proofs.lemmas.Bool.{and_parts}
 use Rattle.std.specs.Prelude.{◌&&◌, ◌||◌, ◌==◌, not, nat_le, nat_lt, is_none, is_some, slice_index_or, if◌then◌else◌, codes, Ok, Err}
 use Rattle.std.specs.List.{list_all, list_any, flat_map, AllByRecursion}
 use Rattle.std.specs.Option.{option_map}
@@ -14,19 +15,19 @@ use Rattle.pgout.specs.declared.message.Field.{Field}
 use Rattle.pgout.specs.declared.message.Field.TheVariants as fields
 use Rattle.pgout.specs.declared.message.ColumnSent.{ColumnSent}
 use Rattle.pgout.specs.Grammar.{spelled}
-use Rattle.shape_base.specs.declared.row.Value.{Value}
-use Rattle.shape_base.specs.declared.row.Value.TheVariants.{Null, Words}
-use Rattle.shape_base.specs.declared.row.Column.{Column}
-use Rattle.shape_base.specs.declared.row.TableDef.{TableDef}
-use Rattle.shape_base.specs.declared.row.Change.{Change}
-use Rattle.shape_base.specs.declared.row.ChangeKind.TheVariants as kinds
-use Rattle.shape_base.specs.declared.row.Entry.{Entry}
-use Rattle.shape_base.specs.declared.row.Tx.{Tx}
+use Rattle.shape_base.specs.declared.value.Value.{Value}
+use Rattle.shape_base.specs.declared.value.Value.TheVariants.{Null, Words}
+use Rattle.shape_base.specs.declared.definition.Column.{Column}
+use Rattle.shape_base.specs.declared.definition.TableDef.{TableDef}
+use Rattle.shape_base.specs.declared.change.Change.{Change}
+use Rattle.shape_base.specs.declared.change.ChangeKind.TheVariants as kinds
+use Rattle.shape_base.specs.declared.entry.Entry.{Entry}
+use Rattle.shape_base.specs.declared.change.Tx.{Tx}
 use Rattle.shape_base.specs.declared.served.Served.{Served}
 use Rattle.shape_base.specs.Tables.{Values, Own, same_text, same_def, is_null, key_values, lacks_key, own_from, changes_of}
 use Rattle.shape_base.specs.Shape.{Knows, quoted, words_of, key_text, cells_of, insert_at, emit, stops}
 use Rattle.shape_base.specs.Log.{entries_past}
-use Rattle.shape_base.proofs.Tests.{both_true, Decides-same_text, Decides-same_def}
+use Rattle.shape_base.proofs.Lemmas.{Decides-same_text, Decides-same_def}
 use Rattle.relation_cache.specs.declared.relation.Relation as described
 use Rattle.tx_assembler.specs.declared.answer.AssembleError.{AssembleError}
 use Rattle.tx_assembler.specs.declared.answer.AssembleError.TheVariants as errors
@@ -34,7 +35,7 @@ use Rattle.tx_assembler.specs.Answers.{next}
 use Rattle.tx_assembler.specs.Rows as rows
 use Rattle.tx_assembler.specs.Whole.{most_bytes}
 use Rattle.tx_assembler.specs.Kept as kept
-use Rattle.tx_assembler.specs.Kept.{Came, bytes_kept, bytes_of_some, with_changes}
+use Rattle.tx_assembler.specs.Kept.{DefinedChange, bytes_kept, bytes_of_some, with_changes}
 use Rattle.tx_assembler.specs.Feeding.{empty_tx}
 use Rattle.tx_assembler.specs.Shown.{Sent, shown, described_by, last_relation, is_commit, pieces_of, concat, rest_of, begin_of, lsn_of, lsn_in, xid_in, if_kept, changes_after, changes_in, bytes_in, tx_of, greatest_of, refused_after, taken_from, shown_in}
 use Rattle.shape_replay.specs.declared.stream.Pending.{Pending}
@@ -67,7 +68,7 @@ abbrev relation_in : Tabled → described.Relation
 relation_in t = record { oid = t.definition.oid; ns = t.ns; name = t.name; columns = t.definition.columns }
 
 -- a row that is inserted
-abbrev came : Tabled → Values → Came
+abbrev came : Tabled → Values → DefinedChange
 came t row = record { definition = t.definition; kind = kinds.Insert row }
 
 -- the entries that rows lead to, from change number j on
@@ -174,7 +175,7 @@ begin_streams tables served t ms lsn time xid stream pending log x false at e s 
 begin_streams tables served t ms lsn time xid stream (Some p) log x true at e s stands h = cc
 begin_streams tables served t ms lsn time xid stream None log x true at e s stands h =
     let m : Message = Begin lsn time xid in
-    let b = both_true (nat_lt stream.last lsn) (is_unseen xid) e in
+    let b = and_parts (nat_lt stream.last lsn) (is_unseen xid) e in
     let rest : rest_of (ms ++ m ∷ []) ≡ m ∷ [] = rest_quiet ms m refl ∙ ap (λ (xs : List Message). xs ++ m ∷ []) stands in
     let none : bytes_in tables (concat (pieces_of (ms ++ m ∷ []))) (rest_of (ms ++ m ∷ [])) ≡ 0 = ap (bytes_in tables (concat (pieces_of (ms ++ m ∷ [])))) rest in
     quiet_streams tables served t ms m stream (record { related = stream.related; last = stream.last; pending = Some (record { lsn = lsn; count = 0; entries = [] }) }) log x s
@@ -196,7 +197,7 @@ begin_streams tables served t ms lsn time xid stream None log x true at e s stan
 
 came-append : (t : Tabled) (xs ys : List Values) → map (came t) (xs ++ ys) ≡ map (came t) xs ++ map (came t) ys
 came-append t [] ys = refl
-came-append t (x ∷ xs) ys = ap (λ (cs : List Came). came t x ∷ cs) (came-append t xs ys)
+came-append t (x ∷ xs) ys = ap (λ (cs : List DefinedChange). came t x ∷ cs) (came-append t xs ys)
 
 entries-append : (t : Tabled) (lsn j : ℕ) (xs ys : List Values) → entries_for t lsn j (xs ++ ys) ≡ entries_for t lsn j xs ++ entries_for t lsn (j + length xs) ys
 entries-append t lsn j [] ys = let same : j + 0 ≡ j = omega arith in ap (λ (n : ℕ). entries_for t lsn n ys) (sym same)
@@ -217,11 +218,11 @@ sizes_more : (ms : List Message) (m : Message) → sizes (ms ++ m ∷ []) ≡ si
 sizes_more [] m = omega arith
 sizes_more (x ∷ ms) m = let rest = sizes_more ms m in omega (arith, rest)
 
-kept_by : (n : ℕ) (cs : List Came) → bytes_of_some n cs ≤ n
+kept_by : (n : ℕ) (cs : List DefinedChange) → bytes_of_some n cs ≤ n
 kept_by n [] = omega arith
 kept_by n (c ∷ cs) = omega arith
 
-kept_small : (m : Message) (cs : List Came) → bytes_kept m cs ≤ length (spelled m)
+kept_small : (m : Message) (cs : List DefinedChange) → bytes_kept m cs ≤ length (spelled m)
 kept_small m cs = kept_by (length (spelled m)) cs
 
 -- a message inside, which brings these rows
@@ -242,8 +243,8 @@ inside_more tables t ms m last p news kind brings keys i =
       unseen = i.unseen;
       later = i.later;
       rows = i.rows ++ news;
-      changes = rw (rest, before) (changes_more tables (concat (pieces_of ms)) (rest_of ms) m ∙ ap (λ (cs : List Came). cs ++ if_kept (changes_after tables (concat (pieces_of ms) ++ rest_of ms) m)) i.changes
-          ∙ ap (λ (cs : List Came). map (came t) i.rows ++ cs) here ∙ sym (came-append t i.rows news));
+      changes = rw (rest, before) (changes_more tables (concat (pieces_of ms)) (rest_of ms) m ∙ ap (λ (cs : List DefinedChange). cs ++ if_kept (changes_after tables (concat (pieces_of ms) ++ rest_of ms) m)) i.changes
+          ∙ ap (λ (cs : List DefinedChange). map (came t) i.rows ++ cs) here ∙ sym (came-append t i.rows news));
       count = ap (λ (n : ℕ). n + length news) i.count ∙ sym (length-append i.rows news);
       entries = ap (λ (es : List Entry). es ++ entries_for t p.lsn p.count news) i.entries ∙ entries_more t p.lsn p.count i.rows news i.count;
       keys = keys_more t i.rows news i.keys keys;
@@ -268,9 +269,9 @@ columns_are [] [] h k = refl
 columns_are [] (c ∷ cs) h k = cc
 columns_are (x ∷ sent) [] h k = cc
 columns_are (x ∷ sent) (c ∷ cs) h k =
-    let a = both_true (same_text x.name c.name) _ h in
-    let b = both_true (x.oid == c.oid) _ a.1 in
-    let u = both_true (is_utf8 c.name) _ k in
+    let a = and_parts (same_text x.name c.name) _ h in
+    let b = and_parts (x.oid == c.oid) _ a.1 in
+    let u = and_parts (is_utf8 c.name) _ k in
     let name : x.name ≡ c.name = (Decides-same_text x.name c.name).0 a.0 in
     let oid : x.oid ≡ c.oid = (Decides-eqb x.oid c.oid).0 b.0 in
     rw (name, oid, text_is c.name u.0, columns_are sent cs b.1 u.1) refl
@@ -280,9 +281,9 @@ is_public t h = (Decides-same_text t.ns (codes "public")).0 h.ns
 
 relation_by : (t : Tabled) (oid : ℕ) (ns name : List ℕ) (columns : List ColumnSent) → IsTabled t → repeats t oid ns name columns ≡ true → (oid ≡ t.definition.oid) × (rows.relation_of oid ns name columns ≡ Ok (relation_in t))
 relation_by t oid ns name columns tabled h =
-    let a = both_true (oid == t.definition.oid) _ h in
-    let b = both_true (same_text ns t.ns) _ a.1 in
-    let c = both_true (same_text name t.name) _ b.1 in
+    let a = and_parts (oid == t.definition.oid) _ h in
+    let b = and_parts (same_text ns t.ns) _ a.1 in
+    let c = and_parts (same_text name t.name) _ b.1 in
     let is_oid : oid ≡ t.definition.oid = (Decides-eqb oid t.definition.oid).0 a.0 in
     let is_ns : ns ≡ codes "public" = (Decides-same_text ns t.ns).0 b.0 ∙ is_public t tabled in
     let is_name : name ≡ t.name = (Decides-same_text name t.name).0 c.0 in
@@ -353,7 +354,7 @@ brings_row : (tables : List Served) (served : Served) (t : Tabled) (ms : List Me
     → changes_after tables ms (Insert oid fs) ≡ Ok (came t row ∷ [])
 brings_row tables served t ms oid fs row named tabled related is h =
     let r = row_by t (values_of fs) row h in
-    let w = both_true (length row == length t.definition.columns) _ r.1 in
+    let w = and_parts (length row == length t.definition.columns) _ r.1 in
     let wide : (length fs == length t.definition.columns) ≡ true = ap (λ (n : ℕ). n == length t.definition.columns) (as_wide fs row r.0) ∙ w.0 in
     let target : option_map (kept.definition_of tables) (last_relation ms oid) ≡ Some (Some t.definition) = rw (is, related) (ap Some (table_at tables served t named tabled)) in
     rw (target, wide, values_are fs 0 row r.0) refl
@@ -382,10 +383,10 @@ insert_streams tables served t ms oid fs stream (Some p) log x false row named t
 insert_streams tables served t ms oid fs stream (Some p) log x true None named tabled small at e r s stands h = cc
 insert_streams tables served t ms oid fs stream (Some p) log x true (Some row) named tabled small at e r s stands h =
     let m : Message = Insert oid fs in
-    let b = both_true stream.related (oid == t.definition.oid) e in
+    let b = and_parts stream.related (oid == t.definition.oid) e in
     let is_oid : oid ≡ t.definition.oid = (Decides-eqb oid t.definition.oid).0 b.1 in
     let brings = brings_row tables served t ms oid fs row named tabled (s.related b.0) is_oid r in
-    let key = not_lacking t row (both_true (length row == length t.definition.columns) _ (row_by t (values_of fs) row r).1).1 in
+    let key = not_lacking t row (and_parts (length row == length t.definition.columns) _ (row_by t (values_of fs) row r).1).1 in
     quiet_streams tables served t ms m stream (record { related = stream.related; last = stream.last; pending = Some (with_change t p row) }) log x s
     (record { kind = refl; taken = insert_taken tables served t ms oid fs stream.last p row stands small brings }) h refl (λ rel. still_related t ms m refl (s.related rel))
     (inside_more tables t ms m stream.last p (row ∷ []) refl (ap if_kept brings) (key, tt) stands)
@@ -477,7 +478,7 @@ piece_rows tables t ms m last p i none =
     let piece : List Message = rest_of ms ++ m ∷ [] in
     let begin : begin_of piece ≡ Some (p.lsn, i.xid) = begin_more (rest_of ms) m (p.lsn, i.xid) i.begin in
     let brings : changes_in tables (concat (pieces_of ms)) piece ≡ map (came t) i.rows =
-    changes_more tables (concat (pieces_of ms)) (rest_of ms) m ∙ ap (λ (cs : List Came). changes_in tables (concat (pieces_of ms)) (rest_of ms) ++ cs) none ∙ append-nil (changes_in tables (concat (pieces_of ms)) (rest_of ms)) ∙ i.changes in
+    changes_more tables (concat (pieces_of ms)) (rest_of ms) m ∙ ap (λ (cs : List DefinedChange). changes_in tables (concat (pieces_of ms)) (rest_of ms) ++ cs) none ∙ append-nil (changes_in tables (concat (pieces_of ms)) (rest_of ms)) ∙ i.changes in
     let b = built_first t p.lsn i.xid i.rows in
     let whole : with_changes (empty_tx (lsn_of piece) (xid_in (begin_of piece))) (changes_in tables (concat (pieces_of ms)) piece) ≡ with_changes (empty_tx p.lsn i.xid) (map (came t) i.rows) =
     ap (λ (o : Option (ℕ × ℕ)). with_changes (empty_tx (lsn_in o) (xid_in o)) (changes_in tables (concat (pieces_of ms)) piece)) begin ∙ ap (with_changes (empty_tx p.lsn i.xid)) brings in

@@ -1,5 +1,6 @@
 -- Laws of declared tables and their rows.
 use Rattle.std.proofs.Common.{◌≡◌, ℕ, zero, suc, ◌+◌, ◌<◌, Bool, true, false, List, [], ◌∷◌, ◌++◌, length, map, take, get_or, refl, sym, ap, subst, ◌∙◌, arith, add-one, ◌&&◌, ◌==◌}
+use Rattle.std.proofs.lemmas.Bool.{and_parts, and_from, false_from_ne_true}
 use Rattle.std.specs.Prelude.{nat_le}
 use Rattle.std.specs.List.{list_all}
 use Rattle.std.specs.Str.{is_utf8, IsUtf8, IsAscii}
@@ -8,15 +9,14 @@ use Rattle.std.proofs.lemmas.List.Folds.{list_all_more}
 use Rattle.std.proofs.lemmas.Str.{IsUtf8-from_is_utf8, IsUtf8-from_ascii, IsUtf8-append}
 use Rattle.std.proofs.lemmas.Str.Ascii.{IsAscii-nil, IsAscii-cons}
 use Rattle.pgout.specs.declared.message.ColumnSent.{ColumnSent}
-use Rattle.shape_base.specs.declared.row.Column.{Column}
+use Rattle.shape_base.specs.declared.definition.Column.{Column}
 use Rattle.shape_base.specs.Shape.{quoted}
-use Rattle.shape_base.proofs.Utf8Key.{IsUtf8-quoted}
-use Rattle.shape_base.proofs.Tests.{both_true, both_are, false_from}
+use Rattle.shape_base.proofs.Lemmas.{IsUtf8-quoted}
 use Rattle.shape_replay.specs.declared.record.NamedColumn.{NamedColumn}
 use Rattle.shape_replay.specs.Profile.{is_name, column_of, same_named, same_sent}
 
 pub not_utf8 : (bs : List ℕ) → (IsUtf8 bs → ⊥) → is_utf8 bs ≡ false
-not_utf8 bs h = false_from (is_utf8 bs) (λ e. h (IsUtf8-from_is_utf8 bs e))
+not_utf8 bs h = false_from_ne_true (is_utf8 bs) (λ e. h (IsUtf8-from_is_utf8 bs e))
 
 -- ---- one column more
 
@@ -29,12 +29,12 @@ pub columns_next : (cs : List NamedColumn) (i : ℕ) (c : NamedColumn) (made new
 columns_next cs i c made new h item was is = rw add-one (is ∙ ap (λ (ds : List Column). ds ++ column_of c ∷ []) was ∙ ap (λ (x : NamedColumn). map column_of (take i cs) ++ column_of x ∷ []) item ∙ map_suc cs i c h)
 
 pub named_next : (cs : List NamedColumn) (i : ℕ) (c : NamedColumn) → i < length cs → c ≡ get_or cs i c → list_all (λ (c : NamedColumn). is_utf8 c.name) (take i cs) ≡ true → is_utf8 c.name ≡ true → list_all (λ (c : NamedColumn). is_utf8 c.name) (take (i + 1) cs) ≡ true
-named_next cs i c h item was is = list_all_more (λ (c : NamedColumn). is_utf8 c.name) cs i c h ∙ both_are _ _ was (ap (λ (x : NamedColumn). is_utf8 x.name) (sym item) ∙ is)
+named_next cs i c h item was is = list_all_more (λ (c : NamedColumn). is_utf8 c.name) cs i c h ∙ and_from _ _ was (ap (λ (x : NamedColumn). is_utf8 x.name) (sym item) ∙ is)
 
 -- ---- the end of two lists of columns
 
 some_left : (n : ℕ) → (suc n == 0) ≡ false
-some_left n = false_from (suc n == 0) (λ t. absurd (omega (arith, (Decides-eqb (suc n) 0).0 t)))
+some_left n = false_from_ne_true (suc n == 0) (λ t. absurd (omega (arith, (Decides-eqb (suc n) 0).0 t)))
 
 pub named_end : (left : List NamedColumn) (rest : List Column) (b : Bool) → length rest < 1 → b ≡ (length left == 0) → b ≡ same_named left rest
 named_end [] [] b h e = e
@@ -53,10 +53,10 @@ lower_small b h = grind (arith, nat_tests)
 
 lower_ascii : (name : List ℕ) → list_all (λ b. nat_le 97 b && nat_le b 122) name ≡ true → IsAscii name
 lower_ascii [] h = IsAscii-nil
-lower_ascii (b ∷ name) h = let p = both_true (nat_le 97 b && nat_le b 122) _ h in IsAscii-cons b name (lower_small b p.0) (lower_ascii name p.1)
+lower_ascii (b ∷ name) h = let p = and_parts (nat_le 97 b && nat_le b 122) _ h in IsAscii-cons b name (lower_small b p.0) (lower_ascii name p.1)
 
 pub name_utf8 : (name : List ℕ) → is_name name ≡ true → IsUtf8 name
-name_utf8 name h = IsUtf8-from_ascii name (lower_ascii name (both_true _ _ h).1)
+name_utf8 name h = IsUtf8-from_ascii name (lower_ascii name (and_parts _ _ h).1)
 
 pub key_utf8 : (front words bytes : List ℕ) → bytes ≡ front ++ quoted words → IsUtf8 front → IsUtf8 words → IsUtf8 bytes
 key_utf8 front words bytes e h k = subst IsUtf8 (sym e) (IsUtf8-append front (quoted words) h (IsUtf8-quoted words k))

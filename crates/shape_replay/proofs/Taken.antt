@@ -1,17 +1,16 @@
 -- What taking a reply does to a client that follows a log.
 use Rattle.std.proofs.Common.{◌≡◌, ℕ, zero, suc, ◌+◌, ◌-◌, ◌≤◌, true, List, [], ◌∷◌, ◌++◌, length, take, refl, sym, ap, subst, ◌∙◌, arith, inl, inr, Option, Some, None}
 use Rattle.std.specs.Option.{option_and_then}
-use Rattle.std.proofs.lemmas.Bool.{cases_lt}
+use Rattle.std.proofs.lemmas.Bool.{cases_lt, and_parts}
 use Rattle.std.specs.FinMap as fin
-use Rattle.shape_base.specs.declared.row.Offset.{Offset}
-use Rattle.shape_base.specs.declared.row.Offset.TheVariants.{Start, At}
-use Rattle.shape_base.specs.declared.row.Entry.{Entry}
-use Rattle.shape_base.specs.declared.row.Tx.{Tx}
+use Rattle.shape_base.specs.declared.offset.Offset.{Offset}
+use Rattle.shape_base.specs.declared.offset.Offset.TheVariants.{Start, At}
+use Rattle.shape_base.specs.declared.entry.Entry.{Entry}
+use Rattle.shape_base.specs.declared.change.Tx.{Tx}
 use Rattle.shape_base.specs.Offsets.{is_before, rises_after}
 use Rattle.shape_base.specs.Shape.{Knows, Map}
 use Rattle.shape_base.specs.Log.{fold, fold_from, last_offset, end_of}
-use Rattle.shape_base.proofs.Commits.{fold_from-append}
-use Rattle.shape_base.proofs.Tests.{both_true}
+use Rattle.shape_base.proofs.Lemmas.{fold_from-append}
 use Rattle.shape_replay.specs.declared.exchange.Page.{Page}
 use Rattle.shape_replay.specs.declared.exchange.Exchange.{Exchange}
 use Rattle.shape_replay.specs.Page.{entries_in, end_from, end_after}
@@ -35,7 +34,7 @@ folds_on log page rows le h = ap fold (page_joins log page le) ∙ fold_from-app
 after_start : (o : Offset) (es : List Entry) (n : ℕ) → is_before Start o ≡ true → rises_after o es ≡ true → is_before Start (last_offset o (take n es)) ≡ true
 after_start o es zero h k = h
 after_start o [] (suc n) h k = h
-after_start o (e ∷ es) (suc n) h k = let p = both_true (is_before o e.offset) _ k in after_start e.offset es n (before_trans Start o e.offset h p.0) p.1
+after_start o (e ∷ es) (suc n) h k = let p = and_parts (is_before o e.offset) _ k in after_start e.offset es n (before_trans Start o e.offset h p.0) p.1
 
 end_is : (o : Offset) → is_before Start o ≡ true → end_from o ≡ o
 end_is Start h = cc

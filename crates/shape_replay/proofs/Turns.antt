@@ -1,16 +1,16 @@
 -- What the turns of a session are of the definitions.
 use Rattle.std.proofs.Common.{◌≡◌, ℕ, ◌≤◌, Bool, true, false, List, [], ◌∷◌, ◌++◌, length, map, refl, sym, ◌∙◌, ap, subst, arith, Option, None, Some}
+use Rattle.std.proofs.lemmas.Bool.{and_parts, and_from, false_from_ne_true}
 use Rattle.std.specs.Prelude.{◌&&◌, ◌==◌, slice_get, if◌then◌else◌}
 use Rattle.std.specs.Option.{option_map}
 use Rattle.std.specs.List.{list_all}
 use Rattle.std.proofs.lemmas.List.{append-nil, length-append}
 use Rattle.pgout.specs.declared.message.Message.{Message}
-use Rattle.shape_base.specs.declared.row.Offset.{Offset}
-use Rattle.shape_base.specs.declared.row.Offset.TheVariants.{At}
-use Rattle.shape_base.specs.declared.row.Entry.{Entry}
+use Rattle.shape_base.specs.declared.offset.Offset.{Offset}
+use Rattle.shape_base.specs.declared.offset.Offset.TheVariants.{At}
+use Rattle.shape_base.specs.declared.entry.Entry.{Entry}
 use Rattle.shape_base.specs.Offsets.{is_before, upto}
 use Rattle.shape_base.specs.Log.{last_offset, end_of}
-use Rattle.shape_base.proofs.Tests.{both_true, both_are, false_from}
 use Rattle.std.proofs.lemmas.Bool.Decides.{Decides-eqb}
 use Rattle.shape_log.specs.Logged.{Logged}
 use Rattle.shape_replay.specs.declared.exchange.Page.{Page}
@@ -64,7 +64,7 @@ answer_all log log' more (Some x) e h = answered_fits log' x (subst (λ (es : Li
 -- ---- a watch that asks
 
 pub not_full : (n : ℕ) → (n ≡ 10000 → ⊥) → (n == 10000) ≡ false
-not_full n h = false_from (n == 10000) (λ e. h ((Decides-eqb n 10000).0 e))
+not_full n h = false_from_ne_true (n == 10000) (λ e. h ((Decides-eqb n 10000).0 e))
 
 ask_by : (s : Session) (e : Exchange) (x : Option Exchange) → x ≡ None → list_all is_answered s.closed.items ≡ true → (length s.closed.items == 10000) ≡ false
     → e ≡ answered (Some s.log.entries) (record { asked = s.client.offset; live = s.client.live; reply = None })
@@ -115,7 +115,7 @@ last_offset-append o (e ∷ es) fs = last_offset-append e.offset es fs
 
 inserts-append : (es fs : List Entry) → are_inserts es ≡ true → are_inserts fs ≡ true → are_inserts (es ++ fs) ≡ true
 inserts-append [] fs h k = k
-inserts-append (e ∷ es) fs h k = let p = both_true _ _ h in both_are _ _ p.0 (inserts-append es fs p.1 k)
+inserts-append (e ∷ es) fs h k = let p = and_parts _ _ h in and_from _ _ p.0 (inserts-append es fs p.1 k)
 
 pub received_tidy : (s : Session) (m : Message) (x : Step) (l : Logged) (e' : Option Exchange) → IsTidy s → streamed s.table s.stream m ≡ Some x → l.entries ≡ s.log.entries ++ x.joins → l.bytes ≡ 0 → e' ≡ option_map (answered (Some l.entries)) s.exchange
     → IsTidy (record { table = s.table; client = s.client; closed = s.closed; exchange = e'; log = l; stream = x.stream })

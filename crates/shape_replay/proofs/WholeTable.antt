@@ -1,16 +1,17 @@
 -- The shape of a whole declared table is a lawful one.
 use Rattle.std.proofs.Common.{◌≡◌, ℕ, zero, suc, ◌+◌, ◌<◌, ◌≤◌, Bool, true, false, List, [], ◌∷◌, length, map, refl, sym, ap, subst, ◌∙◌, arith, Option, Some, None}
+use Rattle.std.proofs.lemmas.Bool.{and_parts, and_from, false_from_ne_true}
 use Rattle.std.specs.Prelude.{◌&&◌, ◌||◌, ◌==◌, not, nat_lt, nat_le, slice_index_or, if◌then◌else◌, codes}
 use Rattle.std.specs.List.{list_all, list_any, AllByRecursion, IsDistinct, range_with_len}
 use Rattle.std.specs.Option.{option_map}
 use Rattle.std.specs.Str.{is_utf8}
 use Rattle.std.proofs.lemmas.Bool.Decides.{nat_tests}
-use Rattle.shape_base.specs.declared.row.Column.{Column}
+use Rattle.shape_base.specs.declared.definition.Column.{Column}
 use Rattle.shape_base.specs.declared.served.Served.{Served}
 use Rattle.shape_base.specs.Tables.{same_text, place_of, with_place, places_of}
 use Rattle.shape_base.specs.Visibility.{rise_between}
 use Rattle.shape_base.specs.Shape.{IsTest, name_at}
-use Rattle.shape_base.proofs.Tests.{both_true, both_are, false_from, Decides-same_text}
+use Rattle.shape_base.proofs.Lemmas.{Decides-same_text}
 use Rattle.shape_replay.specs.declared.record.NamedColumn.{NamedColumn}
 use Rattle.shape_replay.specs.declared.record.KeyPlace.{KeyPlace}
 use Rattle.shape_replay.specs.declared.record.Declaration.{Declaration}
@@ -46,10 +47,10 @@ key_below (p ∷ q ∷ ps) n h = cc
 
 tabled_is : (d : Declaration) → is_taken d ≡ true → IsTabled (tabled d)
 tabled_is d h =
-    let a = both_true (same_text d.ns (codes "public")) _ h in
-    let b = both_true (is_name d.name) _ a.1 in
-    let c = both_true (list_all (λ (c : NamedColumn). is_utf8 c.name) d.columns) _ b.1 in
-    let e = both_true (all_differ (map (λ (c : NamedColumn). c.name) d.columns)) _ c.1 in
+    let a = and_parts (same_text d.ns (codes "public")) _ h in
+    let b = and_parts (is_name d.name) _ a.1 in
+    let c = and_parts (list_all (λ (c : NamedColumn). is_utf8 c.name) d.columns) _ b.1 in
+    let e = and_parts (all_differ (map (λ (c : NamedColumn). c.name) d.columns)) _ c.1 in
     record {
       number = refl;
       ns = a.0;
@@ -73,7 +74,7 @@ rises_in i zero m e = refl
 rises_in i (suc n) m e =
     let low : nat_le i i ≡ true = grind (arith, nat_tests) in
     let high : nat_lt i m ≡ true = grind (arith, nat_tests) in
-    both_are _ _ low (both_are _ _ high (rises_in (i + 1) n m (omega (arith, e))))
+    and_from _ _ low (and_from _ _ high (rises_in (i + 1) n m (omega (arith, e))))
 
 any_of : (p i n : ℕ) → i ≤ p → p < i + n → list_any (λ q. p == q) (range_with_len i n) ≡ true
 any_of p i zero le lt = absurd (omega arith)
@@ -110,7 +111,7 @@ not_is false h = refl
 distinct : (names : List (List ℕ)) → all_differ names ≡ true → IsDistinct same_text names
 unfolding IsDistinct
 distinct [] h = tt
-distinct (name ∷ names) h = let p = both_true (not (list_any (same_text name) names)) _ h in (none_like name names (not_is _ p.0), distinct names p.1)
+distinct (name ∷ names) h = let p = and_parts (not (list_any (same_text name) names)) _ h in (none_like name names (not_is _ p.0), distinct names p.1)
 
 same_self : (name : List ℕ) → same_text name name ≡ true
 same_self name = (Decides-same_text name name).1 refl
@@ -125,14 +126,14 @@ name_among (c ∷ cs) zero test lt h = h.0
 name_among (c ∷ cs) (suc p) test lt h = name_among cs p test (omega arith) h.1
 
 flipped : (a b : List ℕ) → same_text a b ≡ false → same_text b a ≡ false
-flipped a b h = false_from (same_text b a) (λ e. let same : b ≡ a = (Decides-same_text b a).0 e in let twice : same_text b b ≡ false = ap (λ (x : List ℕ). same_text x b) same ∙ h in let self = same_self b in cc)
+flipped a b h = false_from_ne_true (same_text b a) (λ e. let same : b ≡ a = (Decides-same_text b a).0 e in let twice : same_text b b ≡ false = ap (λ (x : List ℕ). same_text x b) same ∙ h in let self = same_self b in cc)
 
 -- each column is the first of its name
 pub place_is : (cs : List Column) (p : ℕ) → p < length cs → all_differ (map (λ (c : Column). c.name) cs) ≡ true → place_of cs (name_in cs p) ≡ Some p
 place_is [] p lt h = absurd (omega arith)
 place_is (c ∷ cs) zero lt h = rw (same_self c.name) refl
 place_is (c ∷ cs) (suc p) lt h =
-    let q = both_true (not (list_any (same_text c.name) (map (λ (c : Column). c.name) cs))) _ h in
+    let q = and_parts (not (list_any (same_text c.name) (map (λ (c : Column). c.name) cs))) _ h in
     let less : p < length cs = omega arith in
     let other = flipped c.name (name_in cs p) (name_among cs p (same_text c.name) less (none_like c.name _ (not_is _ q.0))) in
     let next : p + 1 ≡ suc p = omega arith in
@@ -144,6 +145,6 @@ is_test served t h key = record {
   places = ap (places_of t.definition.columns) key ∙ ap (λ (o : Option ℕ). with_place o (Some [])) (place_is t.definition.columns t.key h.key h.differ);
   apart = (tt, tt);
   selected = rises_in 0 (length t.definition.columns) (length t.definition.columns) (omega arith);
-  holds_key = both_are _ _ (any_of t.key 0 (length t.definition.columns) (omega arith) (omega (arith, h.key))) refl;
+  holds_key = and_from _ _ (any_of t.key 0 (length t.definition.columns) (omega arith) (omega (arith, h.key))) refl;
   names = subst (λ (xs : List (List ℕ)). IsDistinct same_text xs) (sym (all_names t.definition.columns)) (distinct (map (λ (c : Column). c.name) t.definition.columns) h.differ);
 }

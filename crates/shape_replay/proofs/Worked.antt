@@ -6,9 +6,9 @@ use Rattle.pgout.specs.declared.message.Message.{Message}
 use Rattle.pgout.specs.declared.message.Message.TheVariants as message
 use Rattle.pgout.specs.declared.message.Message.TheVariants.{Begin, Relation, Insert}
 use Rattle.pgout.specs.declared.message.Field.TheVariants.{Chars}
-use Rattle.shape_base.specs.declared.row.ChangeKind.{ChangeKind}
-use Rattle.shape_base.specs.declared.row.Entry.{Entry}
-use Rattle.tx_assembler.specs.Kept.{Came, with_changes}
+use Rattle.shape_base.specs.declared.change.ChangeKind.{ChangeKind}
+use Rattle.shape_base.specs.declared.entry.Entry.{Entry}
+use Rattle.tx_assembler.specs.Kept.{DefinedChange, with_changes}
 use Rattle.tx_assembler.specs.Feeding.{empty_tx}
 use Rattle.shape_replay.specs.declared.exchange.Exchange.{Exchange}
 use Rattle.shape_replay.specs.declared.stream.Pending.{Pending}
@@ -22,12 +22,12 @@ use Rattle.shape_replay.proofs.Steps.{first_reply}
 use Rattle.shape_replay.proofs.Streams.{shown_by, shown_is}
 use Rattle.std.specs.FinMap as fin
 use Rattle.std.proofs.lemmas.List.Sorted.{IsPermutation-refl}
-use Rattle.shape_base.specs.declared.row.Value.TheVariants.{Words}
-use Rattle.shape_base.specs.declared.row.Cell.{Cell}
-use Rattle.shape_base.specs.declared.row.TableDef.{TableDef}
-use Rattle.shape_base.specs.declared.row.ChangeKind.TheVariants as kinds
-use Rattle.shape_base.specs.declared.row.Tx.{Tx}
-use Rattle.shape_base.specs.declared.row.Offset.TheVariants.{At}
+use Rattle.shape_base.specs.declared.value.Value.TheVariants.{Words}
+use Rattle.shape_base.specs.declared.entry.Cell.{Cell}
+use Rattle.shape_base.specs.declared.definition.TableDef.{TableDef}
+use Rattle.shape_base.specs.declared.change.ChangeKind.TheVariants as kinds
+use Rattle.shape_base.specs.declared.change.Tx.{Tx}
+use Rattle.shape_base.specs.declared.offset.Offset.TheVariants.{At}
 use Rattle.shape_base.specs.declared.served.Served.{Served}
 use Rattle.shape_base.specs.declared.history.Step.TheVariants.{Commit}
 use Rattle.shape_base.specs.declared.history.History.{History}
@@ -36,7 +36,7 @@ use Rattle.shape_base.specs.Snapshot.{IsHonest, IsShownRightly}
 use Rattle.shape_base.specs.Shape.{Keyed, Map, insert_at, shape_rows}
 use Rattle.shape_base.specs.Log.{point}
 use Rattle.std.specs.Cmp.Lexicographic.{nat_list_cmp_total}
-use Rattle.shape_base.proofs.MapLaws.{text_cmp}
+use Rattle.shape_base.proofs.Lemmas.{text_cmp}
 use Rattle.tx_assembler.specs.Whole.{most_bytes}
 use Rattle.std.specs.Str.{is_utf8}
 use Rattle.byte_format.specs.Format.{string_at, chunk_at, times}
@@ -45,7 +45,8 @@ use Rattle.std.proofs.lemmas.Str.{is_utf8-from_IsUtf8}
 use Rattle.shape_replay.specs.Script.{Item}
 use Rattle.shape_replay.specs.Tabled.{Tabled}
 use Rattle.shape_replay.specs.Profile.{is_name}
-use Rattle.tx_assembler.specs.Shown.{shown, taken_from, tx_of, tx_with, changes_in, meaning, Shows}
+use Rattle.tx_assembler.specs.Shown.{shown, taken_from, tx_of, tx_with, changes_in, Shows}
+use Rattle.shape_base.specs.Transactions.{meaning}
 use Rattle.shape_replay.specs.Record.{record_of}
 use Rattle.shape_replay.specs.Run.{Folding, new_client, Situation, empty, Out, Block, Goes, turn_of}
 use Rattle.shape_replay.specs.Headline.{tables_in, messages_in, stream_of, whole_of, snapshot_of, IsTold, after, is_replied, given_at, commits_in, reach, told, IsRight, IsHeadline}
@@ -171,7 +172,7 @@ changes_are : changes_in history.tables [] messages_are ≡ record { definition 
 changes_are = rw (lower (codes "public") refl, lower (codes "items") refl, lower (codes "id") refl, lower (codes "n") refl, lower (codes "s") refl, lower (codes "a") refl, digit 49 (lit< tt), digit 53 (lit< tt)) refl
 
 does_the_same : meaning (tx_of history.tables [] messages_are) ≡ meaning insert
-does_the_same = ap (λ (cs : List Came). meaning (tx_with (with_changes (empty_tx 100 5) cs) 108 0)) changes_are
+does_the_same = ap (λ (cs : List DefinedChange). meaning (tx_with (with_changes (empty_tx 100 5) cs) 108 0)) changes_are
 
 shows_it : Shows history (stream_of script)
 shows_it = record { front = subst (λ (txs : List Tx). map meaning (take (length txs) (insert ∷ [])) ≡ map meaning txs) (sym shown_one) (ap (λ (m : (ℕ × ℕ) × List (Option TableDef × ChangeKind)). m ∷ []) (sym does_the_same)) }

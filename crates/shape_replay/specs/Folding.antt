@@ -1,10 +1,10 @@
 -- What the program's clients and folds are of the definitions.
 use Rattle.std.specs.Prelude.{◌≡◌, ℕ, ◌≤◌, Bool, true, false, List, length, Option, None, Some}
 use Rattle.std.specs.List.{list_all}
-use Rattle.shape_base.specs.declared.row.Offset.{Offset}
-use Rattle.shape_base.specs.declared.row.Op.{Op}
-use Rattle.shape_base.specs.declared.row.Op.TheVariants.{Insert, Update, Delete}
-use Rattle.shape_base.specs.declared.row.Entry.{Entry}
+use Rattle.shape_base.specs.declared.offset.Offset.{Offset}
+use Rattle.shape_base.specs.declared.entry.Op.{Op}
+use Rattle.shape_base.specs.declared.entry.Op.TheVariants.{Insert, Update, Delete}
+use Rattle.shape_base.specs.declared.entry.Entry.{Entry}
 use Rattle.shape_base.specs.Shape.{Map}
 use Rattle.shape_base.specs.Maps.{map_in}
 use Rattle.shape_base.specs.Log.{fold_from}

@@ -1,8 +1,8 @@
 -- Pages, and the answers to exchanges.
 use Rattle.std.specs.Prelude.{ℕ, ◌-◌, Bool, ◌&&◌, ◌==◌, if◌then◌else◌, List, length, take, drop, Option, None, Some, is_some}
-use Rattle.shape_base.specs.declared.row.Offset.{Offset}
-use Rattle.shape_base.specs.declared.row.Offset.TheVariants.{Start, At}
-use Rattle.shape_base.specs.declared.row.Entry.{Entry}
+use Rattle.shape_base.specs.declared.offset.Offset.{Offset}
+use Rattle.shape_base.specs.declared.offset.Offset.TheVariants.{Start, At}
+use Rattle.shape_base.specs.declared.entry.Entry.{Entry}
 use Rattle.shape_base.specs.Offsets.{is_before, upto}
 use Rattle.shape_base.specs.Log.{last_offset, end_of}
 use Rattle.shape_replay.specs.declared.exchange.Page.{Page}

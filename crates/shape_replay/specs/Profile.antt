@@ -6,11 +6,11 @@ use Rattle.std.specs.Str.{is_utf8}
 use Rattle.pgout.specs.declared.message.Field.{Field}
 use Rattle.pgout.specs.declared.message.Field.TheVariants as fields
 use Rattle.pgout.specs.declared.message.ColumnSent.{ColumnSent}
-use Rattle.shape_base.specs.declared.row.Value.{Value}
-use Rattle.shape_base.specs.declared.row.Value.TheVariants.{Null, Words}
-use Rattle.shape_base.specs.declared.row.Column.{Column}
-use Rattle.shape_base.specs.declared.row.TableDef.{TableDef}
-use Rattle.shape_base.specs.declared.row.Entry.{Entry}
+use Rattle.shape_base.specs.declared.value.Value.{Value}
+use Rattle.shape_base.specs.declared.value.Value.TheVariants.{Null, Words}
+use Rattle.shape_base.specs.declared.definition.Column.{Column}
+use Rattle.shape_base.specs.declared.definition.TableDef.{TableDef}
+use Rattle.shape_base.specs.declared.entry.Entry.{Entry}
 use Rattle.shape_base.specs.Tables.{Values, same_text, is_null}
 use Rattle.shape_base.specs.Shape.{quoted, words_of, by_name, cell_at, insert_at}
 use Rattle.shape_replay.specs.declared.record.NamedColumn.{NamedColumn}

@@ -2,9 +2,9 @@
 use Rattle.std.specs.Prelude.{ℕ, Bool, true, false, not, ◌&&◌, ◌==◌, if◌then◌else◌, List, [], ◌∷◌, ◌++◌, length, map, Option, None, Some, is_none, is_some, unwrap_or, slice_get, slice_set}
 use Rattle.std.specs.FinMap as fin
 use Rattle.pgout.specs.declared.message.Message.{Message}
-use Rattle.shape_base.specs.declared.row.Offset.{Offset}
-use Rattle.shape_base.specs.declared.row.Offset.TheVariants.{Start}
-use Rattle.shape_base.specs.declared.row.Entry.{Entry}
+use Rattle.shape_base.specs.declared.offset.Offset.{Offset}
+use Rattle.shape_base.specs.declared.offset.Offset.TheVariants.{Start}
+use Rattle.shape_base.specs.declared.entry.Entry.{Entry}
 use Rattle.shape_base.specs.Tables.{same_text}
 use Rattle.shape_base.specs.Shape.{Keyed, Map}
 use Rattle.shape_base.specs.Log.{fold_from}

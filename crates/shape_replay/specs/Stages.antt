@@ -2,9 +2,9 @@
 use Rattle.std.specs.Prelude.{◌≡◌, ℕ, ◌*◌, ◌<◌, ◌≤◌, true, false, List, [], ◌∷◌, ◌++◌, length, Option, None, Some}
 use Rattle.std.specs.List.{list_all}
 use Rattle.std.specs.FinMap as fin
-use Rattle.shape_base.specs.declared.row.Offset.{Offset}
-use Rattle.shape_base.specs.declared.row.Offset.TheVariants.{Start, At}
-use Rattle.shape_base.specs.declared.row.Entry.{Entry}
+use Rattle.shape_base.specs.declared.offset.Offset.{Offset}
+use Rattle.shape_base.specs.declared.offset.Offset.TheVariants.{Start, At}
+use Rattle.shape_base.specs.declared.entry.Entry.{Entry}
 use Rattle.shape_base.specs.Maps.{map_in}
 use Rattle.shape_base.specs.Offsets.{is_before, rises_after}
 use Rattle.shape_base.specs.Log.{last_offset, end_of}

@@ -1,6 +1,6 @@
 -- What contracts see of a declared table.
 use Rattle.std.specs.Prelude.{ℕ, List}
-use Rattle.shape_base.specs.declared.row.TableDef.{TableDef}
+use Rattle.shape_base.specs.declared.definition.TableDef.{TableDef}
 
 -- its namespace and name, its definition, and the place of its key column
 pub record Tabled : Type 0 where

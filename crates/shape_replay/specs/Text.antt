@@ -3,10 +3,10 @@ use Rattle.std.specs.Prelude.{ℕ, List, [], ◌∷◌, ◌++◌, length, codes,
 use Rattle.std.specs.List.{flat_map}
 use Rattle.json.specs.Token.{Token, begin_object, end_object, key, string, null}
 use Rattle.json.specs.Print.{print}
-use Rattle.shape_base.specs.declared.row.Value.{Value}
-use Rattle.shape_base.specs.declared.row.Value.TheVariants.{Null, Words}
-use Rattle.shape_base.specs.declared.row.Offset.{Offset}
-use Rattle.shape_base.specs.declared.row.Cell.{Cell}
+use Rattle.shape_base.specs.declared.value.Value.{Value}
+use Rattle.shape_base.specs.declared.value.Value.TheVariants.{Null, Words}
+use Rattle.shape_base.specs.declared.offset.Offset.{Offset}
+use Rattle.shape_base.specs.declared.entry.Cell.{Cell}
 use Rattle.shape_base.specs.OffsetText.{offset_text}
 use Rattle.shape_base.specs.Shape.{Keyed}
 use Rattle.shape_replay.specs.Run.{Out, Block, End}

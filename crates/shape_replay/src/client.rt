@@ -1,6 +1,6 @@
 //! The folding client.
 ghost use Rattle.std.specs.Prelude.{◌≡◌, true, false, Some, None, IfOk, if◌then◌else◌};
-ghost use Rattle.shape_base.specs.declared.row.Op.TheVariants.{Insert};
+ghost use Rattle.shape_base.specs.declared.entry.Op.TheVariants.{Insert};
 ghost use Rattle.shape_base.specs.Shape.{Map};
 ghost use Rattle.shape_base.specs.Log.{fold_op, fold_from};
 ghost use Rattle.shape_base.specs.Maps.{map_in};
@@ -9,9 +9,7 @@ ghost use Rattle.shape_replay.specs.Run.{new_client};
 ghost use Rattle.shape_replay.specs.Folding.{folding_of, are_inserts, IsWithin, IsFolded, IsTaken};
 
 use crate::exchange::Page;
-use shape_base::memory::{Duplicate, OutOfMemory};
-use shape_base::row::{Cells, Entry, Offset};
-use shape_base::text::Text;
+use shape_base::{Cells, Duplicate, Entry, Offset, OutOfMemory, Text};
 use shape_log::Log;
 use std::alloc::Global;
 use std::collections::BTreeMap;

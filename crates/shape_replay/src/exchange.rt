@@ -2,7 +2,7 @@
 ghost use Rattle.std.specs.Prelude.{◌≡◌, Some};
 ghost use Rattle.shape_replay.specs.Page.{answered};
 
-use shape_base::row::Offset;
+use shape_base::Offset;
 use shape_log::Log;
 
 /// The part of a log that a reply carries: the entries from one place up to below another.

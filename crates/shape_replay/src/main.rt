@@ -15,7 +15,7 @@ mod table;
 #[cfg(test)]
 mod tests;
 
-use shape_base::standard::{Input, Output};
+use shape_base::{Input, Output};
 use std::io::BufReader;
 use std::process::ExitCode;
 use std::{env, io};

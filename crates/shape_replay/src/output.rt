@@ -14,10 +14,7 @@ ghost use Rattle.shape_replay.specs.Playing.{Wrote};
 use crate::client::Client;
 use crate::stop::Stop;
 use json::Writer;
-use shape_base::memory::OutOfMemory;
-use shape_base::outside::Sink;
-use shape_base::row::{Cell, Cells, Value};
-use shape_base::text::Text;
+use shape_base::{Cell, Cells, OutOfMemory, Sink, Text, Value};
 use std::alloc::{AllocError, Global};
 
 /// How many bytes are gathered before they are written.

@@ -11,7 +11,7 @@ use crate::output::{write_block, write_end};
 use crate::script::{Item, next_item};
 use crate::stages::{Stage, Turn, take_item};
 use crate::stop::{ScriptCause, Stop};
-use shape_base::outside::{Sink, Source};
+use shape_base::{Sink, Source};
 use std::alloc::Global;
 
 /// Whether bytes stand past the limit, where all within it were read.

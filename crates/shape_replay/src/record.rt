@@ -12,9 +12,7 @@ use byte_format::{
     Part, ReadError, list_of, put_string, put_u16, put_u32, string_of, u16_at, u32_at,
 };
 use pgout::{Message, MessageError, read_message};
-use shape_base::memory::OutOfMemory;
-use shape_base::row::Octets;
-use shape_base::seq::Seq;
+use shape_base::{Octets, OutOfMemory, Seq};
 use std::alloc::{AllocError, Global};
 
 /// A column of a declared table or of a snapshot.

@@ -11,7 +11,7 @@ ghost use Rattle.shape_replay.specs.Running.{AreReplay, status_of, status_by, Se
 
 use crate::playing::play;
 use crate::stop::{ScriptCause, Stop};
-use shape_base::outside::{Sink, Source};
+use shape_base::{Sink, Source};
 use std::alloc::Global;
 
 /// The most bytes of a script.

@@ -6,7 +6,7 @@ ghost use Rattle.shape_replay.specs.Reading.{Consumes, since, IsNext, IsOfReadin
 ghost use Rattle.shape_replay.specs.Script.{item_at};
 
 use crate::stop::Stop;
-use shape_base::outside::Source;
+use shape_base::Source;
 use std::alloc::Global;
 
 /// One record of a script: its kind byte and its payload.

@@ -18,8 +18,7 @@ use crate::script::Item;
 use crate::stream::{Step, Stream, take_message};
 use crate::table::Table;
 use pgout::Message;
-use shape_base::memory::OutOfMemory;
-use shape_base::row::{Entries, Offset};
+use shape_base::{Entries, Offset, OutOfMemory};
 use shape_log::Log;
 use std::alloc::Global;
 

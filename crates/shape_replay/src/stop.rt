@@ -46,10 +46,10 @@ impl<T: Drop> From<AllocFailed<T>> for Stop {
     }
 }
 
-impl From<shape_base::memory::OutOfMemory> for Stop {
+impl From<shape_base::OutOfMemory> for Stop {
     ghost from_gives = { λ _ e. e ≡ OutOfMemory };
 
-    fn from(_error: shape_base::memory::OutOfMemory) -> Stop {
+    fn from(_error: shape_base::OutOfMemory) -> Stop {
         Stop::OutOfMemory
     }
 }

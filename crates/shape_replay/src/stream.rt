@@ -6,8 +6,7 @@ ghost use Rattle.shape_replay.specs.Stream.{start, quietly, begun, related_by, w
 
 use crate::table::Table;
 use pgout::{Fields, Message};
-use shape_base::memory::OutOfMemory;
-use shape_base::row::Entries;
+use shape_base::{Entries, OutOfMemory};
 use std::alloc::Global;
 
 /// A transaction that has begun.

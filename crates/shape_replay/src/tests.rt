@@ -1,6 +1,6 @@
 //! Runs of scripts, with what they print written by hand. A script is a text with a letter for each record.
 use super::running::run;
-use shape_base::in_memory::{MemorySink, MemorySource};
+use shape_base::{MemorySink, MemorySource};
 use std::alloc::Global;
 use std::test::*;
 

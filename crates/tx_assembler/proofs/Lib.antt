@@ -4,3 +4,4 @@ pub mod Wholes
 pub mod Pieces
 pub mod Standing
 pub mod Runs
+pub mod Taken

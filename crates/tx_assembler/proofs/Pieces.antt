@@ -6,9 +6,9 @@ use Rattle.std.proofs.lemmas.Bool.Decides.{nat_tests}
 use Rattle.pgout.specs.declared.message.Message.{Message}
 use Rattle.pgout.specs.declared.message.Message.TheVariants.{Begin, Commit, Origin, TypeName, Relation, Insert, Update, Delete, Truncate, Logical}
 use Rattle.shape_base.specs.declared.served.Served.{Served}
-use Rattle.shape_base.specs.declared.row.Tx.{Tx}
+use Rattle.shape_base.specs.declared.change.Tx.{Tx}
 use Rattle.relation_cache.specs.declared.relation.Relation as described
-use Rattle.tx_assembler.specs.Kept.{Came, bytes_kept}
+use Rattle.tx_assembler.specs.Kept.{DefinedChange, bytes_kept}
 use Rattle.tx_assembler.specs.Shown.{Sent, messages_of, or_else, described_by, last_relation, is_commit, before_first, pieces_of, concat, has_commit, rest_of, or_begin, begin_of, lsn_of, if_kept, changes_after, changes_in, bytes_in, tx_of, greatest_of, Verdict, refused_after, unless_refused, taken_from, shown_in}
 
 pub all_sent : (ms : List Message) → messages_of (map Sent ms) ≡ ms
@@ -159,7 +159,7 @@ relation_more (x ∷ ms) m oid = ap (λ (o : Option described.Relation). or_else
 pub changes_more : (tables : List Served) (before ms : List Message) (m : Message) → changes_in tables before (ms ++ m ∷ []) ≡ changes_in tables before ms ++ if_kept (changes_after tables (before ++ ms) m)
 changes_more tables before [] m = append-nil (if_kept (changes_after tables before m)) ∙ ap (λ (xs : List Message). if_kept (changes_after tables xs m)) (sym (append-nil before))
 changes_more tables before (x ∷ ms) m =
-    ap (λ (cs : List Came). if_kept (changes_after tables before x) ++ cs) (changes_more tables (before ++ x ∷ []) ms m)
+    ap (λ (cs : List DefinedChange). if_kept (changes_after tables before x) ++ cs) (changes_more tables (before ++ x ∷ []) ms m)
     ∙ sym (append_assoc (if_kept (changes_after tables before x)) (changes_in tables (before ++ x ∷ []) ms) (if_kept (changes_after tables ((before ++ x ∷ []) ++ ms) m)))
     ∙ ap (λ (xs : List Message). (if_kept (changes_after tables before x) ++ changes_in tables (before ++ x ∷ []) ms) ++ if_kept (changes_after tables xs m)) (append_assoc before (x ∷ []) ms)
 

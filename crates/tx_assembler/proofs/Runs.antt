@@ -4,7 +4,7 @@ use Rattle.std.specs.Prelude.{nat_le, if◌then◌else◌}
 use Rattle.std.specs.FinMap as fin
 use Rattle.std.proofs.lemmas.List.{append-nil}
 use Rattle.pgout.specs.declared.message.Message.{Message}
-use Rattle.shape_base.specs.declared.row.Tx.{Tx}
+use Rattle.shape_base.specs.declared.change.Tx.{Tx}
 use Rattle.shape_base.specs.declared.served.Served.{Served}
 use Rattle.relation_cache.specs.Relations.{ByOid}
 use Rattle.tx_assembler.specs.declared.answer.AssembleError.{AssembleError}
@@ -15,7 +15,7 @@ use Rattle.tx_assembler.specs.Answers.{Answer}
 use Rattle.tx_assembler.specs.Situation.{Situation}
 use Rattle.tx_assembler.specs.Feeding.{Turn, with_stage, turn_of}
 use Rattle.tx_assembler.specs.Shown.{Stretch, messages_of, is_commit, pieces_of, concat, rest_of, lsn_of, tx_of, greatest_of, Verdict, refused_after, unless_refused, taken_from, taken_of, shown_in, shown_from}
-use Rattle.tx_assembler.specs.Courses.{after_turn, told, answers_to, after_all, at_start, reopened, answers_over, due_for, due_after, due_by, due_from, due_over, if_given, given_in, given_over, FedIsShown}
+use Rattle.tx_assembler.specs.Stream.{after_turn, told, answers_to, after_all, at_start, reopened, answers_over, due_for, due_after, due_by, due_from, due_over, if_given, given_in, given_over, FedIsShown}
 use Rattle.tx_assembler.proofs.Pieces.{pieces_quiet, pieces_closed, one_shown, shown_more}
 use Rattle.tx_assembler.proofs.Standing.{standing, put_by, turn_by, Stands, turned, stands_on, stands_first}
 
@@ -25,7 +25,7 @@ refused_answers : (s : Situation) (e : AssembleError) (ms : List Message) → an
 refused_answers s e [] = refl
 refused_answers s e (m ∷ ms) = ap (λ (xs : List (Answer Fed)). Err e ∷ xs) (refused_answers s e ms)
 
-refused_all : (s : Situation) (e : AssembleError) (ms : List Message) → after_all (with_stage s (Refused e)) ms ≡ with_stage s (Refused e)
+pub refused_all : (s : Situation) (e : AssembleError) (ms : List Message) → after_all (with_stage s (Refused e)) ms ≡ with_stage s (Refused e)
 refused_all s e [] = refl
 refused_all s e (m ∷ ms) = refused_all s e ms
 
@@ -51,7 +51,7 @@ reopened_by tables last before m (Some e) turn s after fed ms rest h go here =
     ap (λ (t : Answer Turn). reopened (after_all (after_turn s t) ms)) h ∙ ap reopened (refused_all s e ms) ∙ here
     ∙ ap (λ (xs : List Message). at_start tables (greatest_of last (pieces_of xs))) (sym (append-nil before))
 
-reopened_so : (tables : List Served) (last : ℕ) (before : List Message) (known : ByOid) → Stands tables before known → (ms : List Message)
+pub reopened_so : (tables : List Served) (last : ℕ) (before : List Message) (known : ByOid) → Stands tables before known → (ms : List Message)
     → reopened (after_all (standing tables last before known) ms) ≡ at_start tables (greatest_of last (pieces_of (before ++ taken_from tables last before ms)))
 reopened_so tables last before known s [] = ap (λ (xs : List Message). at_start tables (greatest_of last (pieces_of xs))) (sym (append-nil before))
 reopened_so tables last before known s (m ∷ ms) =
@@ -70,7 +70,7 @@ over_so tables last s h (stretch ∷ stretches) =
 
 -- ---- what is given
 
-none_given : (e : AssembleError) (ms : List Message) → given_in (map (λ m. Err e) ms) ≡ []
+pub none_given : (e : AssembleError) (ms : List Message) → given_in (map (λ m. Err e) ms) ≡ []
 none_given e [] = refl
 none_given e (m ∷ ms) = none_given e ms
 
@@ -106,7 +106,7 @@ given_by tables last before m (Some e) ms rest later go =
     ap (λ (xs : List Message). shown_in tables [] last (pieces_of xs)) (append-nil before) ∙ sym (append-nil (shown_in tables [] last (pieces_of before)))
     ∙ ap (λ (txs : List Tx). shown_in tables [] last (pieces_of before) ++ txs) (sym (none_given e ms))
 
-given_so : (tables : List Served) (last : ℕ) (before ms : List Message)
+pub given_so : (tables : List Served) (last : ℕ) (before ms : List Message)
     → shown_in tables [] last (pieces_of (before ++ taken_from tables last before ms)) ≡ shown_in tables [] last (pieces_of before) ++ given_in (due_from tables last before ms)
 given_so tables last before [] = ap (λ (xs : List Message). shown_in tables [] last (pieces_of xs)) (append-nil before) ∙ sym (append-nil (shown_in tables [] last (pieces_of before)))
 given_so tables last before (m ∷ ms) =

@@ -12,8 +12,8 @@ use Rattle.std.proofs.lemmas.Bool.Decides.{nat_tests, Decides-eqb}
 use Rattle.pgout.specs.declared.message.ColumnSent.{ColumnSent}
 use Rattle.pgout.specs.declared.message.Message.{Message}
 use Rattle.pgout.specs.declared.message.Message.TheVariants.{Begin, Commit, Origin, TypeName, Relation, Insert, Update, Delete, Truncate, Logical}
-use Rattle.shape_base.specs.declared.row.Tx.{Tx}
-use Rattle.shape_base.specs.declared.row.Column.{Column}
+use Rattle.shape_base.specs.declared.change.Tx.{Tx}
+use Rattle.shape_base.specs.declared.definition.Column.{Column}
 use Rattle.shape_base.specs.declared.served.Served.{Served}
 use Rattle.relation_cache.specs.declared.relation.Relation as described
 use Rattle.relation_cache.specs.Relations.{ByOid}
@@ -24,12 +24,12 @@ use Rattle.tx_assembler.specs.declared.stage.Stage.{Stage}
 use Rattle.tx_assembler.specs.declared.stage.Stage.TheVariants.{Outside, Passing, Taking}
 use Rattle.tx_assembler.specs.Answers.{Answer, next}
 use Rattle.tx_assembler.specs.Rows.{text_of, namespace_of, columns_of, relation_of}
-use Rattle.tx_assembler.specs.Kept.{Came, target_of, changes_of, bytes_kept, place_of_definition, with_change_at, with_change, with_changes, with_bytes}
+use Rattle.tx_assembler.specs.Kept.{DefinedChange, target_of, changes_of, bytes_kept, place_of_definition, with_change_at, with_change, with_changes, with_bytes}
 use Rattle.tx_assembler.specs.Situation.{Situation}
 use Rattle.tx_assembler.specs.Whole.{most_bytes}
 use Rattle.tx_assembler.specs.Feeding.{Turn, empty_tx, begun, same_lsn, closed, committed, related, grown, changed, received, unless_refused, turn_of}
 use Rattle.tx_assembler.specs.Shown.{if_made, described_by, or_else, last_relation, is_commit, pieces_of, concat, has_commit, rest_of, or_begin, begin_of, xid_in, lsn_in, or_end, end_of, if_kept, changes_after, changes_in, bytes_in, tx_with, greatest_of, Verdict, refusal_in, begin_refused, commit_refused, changes_refused, change_refused, refused_after}
-use Rattle.tx_assembler.specs.Courses.{due_for, due_after}
+use Rattle.tx_assembler.specs.Stream.{due_for, due_after}
 use Rattle.tx_assembler.proofs.Targets.{with_both}
 use Rattle.tx_assembler.proofs.Pieces.{pieces_quiet, rest_quiet, pieces_closed, rest_closed, joined, relation_more, changes_more, bytes_more, greatest_more}
 
@@ -95,34 +95,34 @@ none_left (x ∷ ms) =
 
 -- ---- transactions so far
 
-with_at : (t : Tx) (e b : ℕ) (c : Came) (place : Option ℕ) → with_change_at (tx_with t e b) c place ≡ tx_with (with_change_at t c place) e b
+with_at : (t : Tx) (e b : ℕ) (c : DefinedChange) (place : Option ℕ) → with_change_at (tx_with t e b) c place ≡ tx_with (with_change_at t c place) e b
 with_at t e b c None = refl
 with_at t e b c (Some p) = refl
 
-with_all : (t : Tx) (e b : ℕ) (cs : List Came) → with_changes (tx_with t e b) cs ≡ tx_with (with_changes t cs) e b
+with_all : (t : Tx) (e b : ℕ) (cs : List DefinedChange) → with_changes (tx_with t e b) cs ≡ tx_with (with_changes t cs) e b
 with_all t e b [] = refl
 with_all t e b (c ∷ cs) = ap (λ (x : Tx). with_changes x cs) (with_at t e b c (place_of_definition t.defs c.definition)) ∙ with_all (with_change t c) e b cs
 
-lsn_at : (t : Tx) (c : Came) (place : Option ℕ) → (with_change_at t c place).lsn ≡ t.lsn
+lsn_at : (t : Tx) (c : DefinedChange) (place : Option ℕ) → (with_change_at t c place).lsn ≡ t.lsn
 lsn_at t c None = refl
 lsn_at t c (Some p) = refl
 
-lsn_stays : (t : Tx) (cs : List Came) → (with_changes t cs).lsn ≡ t.lsn
+lsn_stays : (t : Tx) (cs : List DefinedChange) → (with_changes t cs).lsn ≡ t.lsn
 lsn_stays t [] = refl
 lsn_stays t (c ∷ cs) = lsn_stays (with_change t c) cs ∙ lsn_at t c (place_of_definition t.defs c.definition)
 
 -- the transaction of a Begin with these changes and bytes so far
-abbrev so_far : ℕ × ℕ → List Came → ℕ → Tx
+abbrev so_far : ℕ × ℕ → List DefinedChange → ℕ → Tx
 so_far begin cs bytes = tx_with (with_changes (empty_tx begin.0 begin.1) cs) 0 bytes
 
-more_so_far : (begin : ℕ × ℕ) (cs more : List Came) (b n : ℕ) → with_bytes (with_changes (so_far begin cs b) more) n ≡ so_far begin (cs ++ more) n
+more_so_far : (begin : ℕ × ℕ) (cs more : List DefinedChange) (b n : ℕ) → with_bytes (with_changes (so_far begin cs b) more) n ≡ so_far begin (cs ++ more) n
 more_so_far begin cs more b n =
     ap (λ (t : Tx). with_bytes t n) (with_all (with_changes (empty_tx begin.0 begin.1) cs) 0 b more)
     ∙ ap (λ (t : Tx). tx_with t 0 n) (with_both (empty_tx begin.0 begin.1) cs more)
 
 -- ---- where the assembler stands
 
-abbrev pub stage_by : Begun → ℕ → List Came → ℕ → Stage
+abbrev pub stage_by : Begun → ℕ → List DefinedChange → ℕ → Stage
 stage_by None last cs bytes = Outside
 stage_by (Some begin) last cs bytes = if nat_le begin.0 last then Passing begin.0 else Taking (so_far begin cs bytes)
 
@@ -134,7 +134,7 @@ standing tables last before known =
     situation tables known (greatest_of last (pieces_of before))
     (stage_by (begin_of (rest_of before)) (greatest_of last (pieces_of before)) (changes_in tables (concat (pieces_of before)) (rest_of before)) (bytes_in tables (concat (pieces_of before)) (rest_of before)))
 
-never_refused : (b : Begun) (last : ℕ) (cs : List Came) (bytes : ℕ) (turn : Answer Turn) → unless_refused (stage_by b last cs bytes) turn ≡ turn
+never_refused : (b : Begun) (last : ℕ) (cs : List DefinedChange) (bytes : ℕ) (turn : Answer Turn) → unless_refused (stage_by b last cs bytes) turn ≡ turn
 never_refused None last cs bytes turn = refl
 never_refused (Some begin) last cs bytes turn =
     elim (nat_le begin.0 last) as (λ t. unless_refused (if t then Passing begin.0 else Taking (so_far begin cs bytes)) turn ≡ turn) [
@@ -172,7 +172,7 @@ pub record Stands (tables : List Served) (before : List Message) (known : ByOid)
 
 -- ---- each kind of message, from any stage
 
-kept_turn : (tables : List Served) (known : ByOid) (last : ℕ) (stage : Stage) (begin : ℕ × ℕ) (cs : List Came) (b : ℕ) (m : Message) (a : Answer (List Came))
+kept_turn : (tables : List Served) (known : ByOid) (last : ℕ) (stage : Stage) (begin : ℕ × ℕ) (cs : List DefinedChange) (b : ℕ) (m : Message) (a : Answer (List DefinedChange))
     → next (next a (λ more. grown (so_far begin cs b) (bytes_kept m more) more)) (λ tx. Ok (situation tables known last (Taking tx), answers.Nothing))
     ≡ turn_by (changes_refused a m b) (situation tables known last (Taking (so_far begin (cs ++ if_kept a) (b + bytes_kept m (if_kept a)))), answers.Nothing)
 kept_turn tables known last stage begin cs b m (Err e) = refl
@@ -183,7 +183,7 @@ kept_turn tables known last stage begin cs b m (Ok more) =
       | false ↦ refl
     ]
 
-changed_turn : (tables : List Served) (known : ByOid) (last : ℕ) (begin : Begun) (cs : List Came) (b kind : ℕ) (m : Message) (a : Answer (List Came)) → changes_of (target_of tables (fin.get known)) m ≡ a
+changed_turn : (tables : List Served) (known : ByOid) (last : ℕ) (begin : Begun) (cs : List DefinedChange) (b kind : ℕ) (m : Message) (a : Answer (List DefinedChange)) → changes_of (target_of tables (fin.get known)) m ≡ a
     → changed (situation tables known last (stage_by begin last cs b)) (stage_by begin last cs b) kind m
     ≡ turn_by (change_refused begin last kind (changes_refused a m b)) (situation tables known last (stage_by begin last (cs ++ if_kept a) (b + bytes_kept m (if_kept a))), answers.Nothing)
 changed_turn tables known last None cs b kind m a h = refl
@@ -191,15 +191,15 @@ changed_turn tables known last (Some begin) cs b kind m a h =
     elim (nat_le begin.0 last) as (λ t. changed (situation tables known last (if t then Passing begin.0 else Taking (so_far begin cs b))) (if t then Passing begin.0 else Taking (so_far begin cs b)) kind m
     ≡ turn_by (if t then None else changes_refused a m b) (situation tables known last (if t then Passing begin.0 else Taking (so_far begin (cs ++ if_kept a) (b + bytes_kept m (if_kept a)))), answers.Nothing)) [
       | true ↦ refl
-      | false ↦ ap (λ (x : Answer (List Came)). next (next x (λ more. grown (so_far begin cs b) (bytes_kept m more) more)) (λ tx. Ok (situation tables known last (Taking tx), answers.Nothing))) h
+      | false ↦ ap (λ (x : Answer (List DefinedChange)). next (next x (λ more. grown (so_far begin cs b) (bytes_kept m more) more)) (λ tx. Ok (situation tables known last (Taking tx), answers.Nothing))) h
           ∙ kept_turn tables known last Outside begin cs b m a
     ]
 
-pub begun_turn : (tables : List Served) (known : ByOid) (last : ℕ) (begin : Begun) (cs : List Came) (b lsn xid : ℕ) → (begin ≡ None → cs ≡ []) → (begin ≡ None → b ≡ 0)
+pub begun_turn : (tables : List Served) (known : ByOid) (last : ℕ) (begin : Begun) (cs : List DefinedChange) (b lsn xid : ℕ) → (begin ≡ None → cs ≡ []) → (begin ≡ None → b ≡ 0)
     → begun (situation tables known last (stage_by begin last cs b)) (stage_by begin last cs b) lsn xid
     ≡ turn_by (begin_refused begin) (situation tables known last (stage_by (or_else begin (Some (lsn, xid))) last (cs ++ []) (b + 0)), answers.Nothing)
 begun_turn tables known last None cs b lsn xid quiet still =
-    ap (λ (x : List Came). Ok (situation tables known last (stage_by (Some (lsn, xid)) last (x ++ []) 0), answers.Nothing)) (sym (quiet refl))
+    ap (λ (x : List DefinedChange). Ok (situation tables known last (stage_by (Some (lsn, xid)) last (x ++ []) 0), answers.Nothing)) (sym (quiet refl))
     ∙ ap (λ n. Ok (situation tables known last (stage_by (Some (lsn, xid)) last (cs ++ []) (n + 0)), answers.Nothing)) (sym (still refl))
 begun_turn tables known last (Some begin) cs b lsn xid quiet still =
     elim (nat_le begin.0 last) as (λ t. begun (situation tables known last (if t then Passing begin.0 else Taking (so_far begin cs b))) (if t then Passing begin.0 else Taking (so_far begin cs b)) lsn xid ≡ Err (errors.OutOfOrder 66 66)) [
@@ -208,7 +208,7 @@ begun_turn tables known last (Some begin) cs b lsn xid quiet still =
     ]
 
 -- what a Commit closes
-abbrev closing : Begun → ℕ → List Came → ℕ → ℕ → Fed
+abbrev closing : Begun → ℕ → List DefinedChange → ℕ → ℕ → Fed
 closing begin last cs bytes end =
     if nat_le (lsn_in begin) last then answers.Repeat (lsn_in begin) last
     else answers.Tx (tx_with (with_changes (empty_tx (lsn_in begin) (xid_in begin)) cs) end bytes)
@@ -223,7 +223,7 @@ passing_turn tables known last begin lsn end top =
       | false ↦ λ e. refl
     ] refl
 
-taking_turn : (tables : List Served) (known : ByOid) (last : ℕ) (begin : ℕ × ℕ) (cs : List Came) (b lsn end : ℕ) → max last begin.0 ≡ begin.0
+taking_turn : (tables : List Served) (known : ByOid) (last : ℕ) (begin : ℕ × ℕ) (cs : List DefinedChange) (b lsn end : ℕ) → max last begin.0 ≡ begin.0
     → next (same_lsn begin.0 lsn) (λ x. Ok (closed (situation tables known last (Taking (so_far begin cs b))) (Taking (so_far begin cs b)) lsn end))
     ≡ turn_by (commit_refused (Some begin) lsn) (situation tables known (max last begin.0) Outside, answers.Tx (tx_with (with_changes (empty_tx begin.0 begin.1) cs) end b))
 taking_turn tables known last begin cs b lsn end top =
@@ -233,7 +233,7 @@ taking_turn tables known last begin cs b lsn end top =
       | false ↦ λ e. refl
     ] refl
 
-committed_turn : (tables : List Served) (known : ByOid) (last : ℕ) (begin : Begun) (cs : List Came) (b lsn end : ℕ)
+committed_turn : (tables : List Served) (known : ByOid) (last : ℕ) (begin : Begun) (cs : List DefinedChange) (b lsn end : ℕ)
     → committed (situation tables known last (stage_by begin last cs b)) (stage_by begin last cs b) lsn end
     ≡ turn_by (commit_refused begin lsn) (situation tables known (max last (lsn_in begin)) Outside, closing begin last cs b end)
 committed_turn tables known last None cs b lsn end = refl
@@ -252,7 +252,7 @@ related_turn tables known last stage (Err e) = refl
 
 -- ---- one message more
 
-abbrev more_of : List Served → List Message → Message → List Came
+abbrev more_of : List Served → List Message → Message → List DefinedChange
 more_of tables before m = if_kept (changes_after tables before m)
 
 begin_next : (before : List Message) (m : Message) → is_commit m ≡ false → begin_of (rest_of (before ++ m ∷ [])) ≡ or_else (begin_of (rest_of before)) (or_begin m None)
@@ -282,7 +282,7 @@ moved tables last before known m h =
     let now = before ++ m ∷ [] in
     ap (λ l. situation tables known l (stage_by (begin_of (rest_of now)) l (changes_in tables (concat (pieces_of now)) (rest_of now)) (bytes_in tables (concat (pieces_of now)) (rest_of now)))) (ap (greatest_of last) (pieces_quiet before m h))
     ∙ ap (λ (o : Begun). situation tables known (greatest_of last (pieces_of before)) (stage_by o (greatest_of last (pieces_of before)) (changes_in tables (concat (pieces_of now)) (rest_of now)) (bytes_in tables (concat (pieces_of now)) (rest_of now)))) (begin_next before m h)
-    ∙ ap (λ (cs : List Came). situation tables known (greatest_of last (pieces_of before)) (stage_by (or_else (begin_of (rest_of before)) (or_begin m None)) (greatest_of last (pieces_of before)) cs (bytes_in tables (concat (pieces_of now)) (rest_of now)))) (changes_next tables before m h)
+    ∙ ap (λ (cs : List DefinedChange). situation tables known (greatest_of last (pieces_of before)) (stage_by (or_else (begin_of (rest_of before)) (or_begin m None)) (greatest_of last (pieces_of before)) cs (bytes_in tables (concat (pieces_of now)) (rest_of now)))) (changes_next tables before m h)
     ∙ ap (λ n. situation tables known (greatest_of last (pieces_of before)) (stage_by (or_else (begin_of (rest_of before)) (or_begin m None)) (greatest_of last (pieces_of before)) (changes_in tables (concat (pieces_of before)) (rest_of before) ++ more_of tables before m) n)) (bytes_next tables before m h)
 
 moved_on : (tables : List Served) (last : ℕ) (before : List Message) (known : ByOid) (m : Message) → is_commit m ≡ false → or_begin m None ≡ None
@@ -301,8 +301,8 @@ moved_still tables last before known m h none nothing =
     let b = bytes_in tables (concat (pieces_of before)) (rest_of before) in
     let plus : b + 0 ≡ b = omega arith in
     moved_on tables last before known m h none
-    ∙ ap (λ (more : List Came). situation tables known (greatest_of last (pieces_of before)) (stage_by (begin_of (rest_of before)) (greatest_of last (pieces_of before)) (cs ++ more) (b + bytes_kept m more))) nothing
-    ∙ ap (λ (xs : List Came). situation tables known (greatest_of last (pieces_of before)) (stage_by (begin_of (rest_of before)) (greatest_of last (pieces_of before)) xs (b + 0))) (append-nil cs)
+    ∙ ap (λ (more : List DefinedChange). situation tables known (greatest_of last (pieces_of before)) (stage_by (begin_of (rest_of before)) (greatest_of last (pieces_of before)) (cs ++ more) (b + bytes_kept m more))) nothing
+    ∙ ap (λ (xs : List DefinedChange). situation tables known (greatest_of last (pieces_of before)) (stage_by (begin_of (rest_of before)) (greatest_of last (pieces_of before)) xs (b + 0))) (append-nil cs)
     ∙ ap (λ n. situation tables known (greatest_of last (pieces_of before)) (stage_by (begin_of (rest_of before)) (greatest_of last (pieces_of before)) cs n)) plus
 
 -- a Commit
@@ -325,8 +325,8 @@ closed_so tables last before m h none nothing =
     let b = bytes_in tables c (rest_of before) in
     let plus : b + 0 ≡ b = omega arith in
     ap (λ (o : Begun). closing o last (changes_in tables c p) (bytes_in tables c p) (end_of p)) (begin_then (rest_of before) m ∙ ap (or_else (begin_of (rest_of before))) none ∙ or_none (begin_of (rest_of before)))
-    ∙ ap (λ (xs : List Came). closing (begin_of (rest_of before)) last xs (bytes_in tables c p) (end_of p)) (changes_more tables c (rest_of before) m ∙ ap (λ (xs : List Came). cs ++ xs) nothing ∙ append-nil cs)
-    ∙ ap (λ n. closing (begin_of (rest_of before)) last cs n (end_of p)) (bytes_more tables c (rest_of before) m ∙ ap (λ (xs : List Came). b + bytes_kept m xs) nothing ∙ plus)
+    ∙ ap (λ (xs : List DefinedChange). closing (begin_of (rest_of before)) last xs (bytes_in tables c p) (end_of p)) (changes_more tables c (rest_of before) m ∙ ap (λ (xs : List DefinedChange). cs ++ xs) nothing ∙ append-nil cs)
+    ∙ ap (λ n. closing (begin_of (rest_of before)) last cs n (end_of p)) (bytes_more tables c (rest_of before) m ∙ ap (λ (xs : List DefinedChange). b + bytes_kept m xs) nothing ∙ plus)
     ∙ ap (closing (begin_of (rest_of before)) last cs b) (end_then (rest_of before) m (none_left before))
 
 -- ---- a turn
@@ -443,7 +443,7 @@ none_first None y h = refl
 none_first (Some x) y h = absurd (subst IsNones (sym h) tt)
 
 -- outside of a transaction a message that is not refused brings no change
-brings_by : (begin : Begun) (last kind : ℕ) (v : Verdict) (a : Answer (List Came)) → change_refused begin last kind v ≡ None → begin ≡ None → if_kept a ≡ []
+brings_by : (begin : Begun) (last kind : ℕ) (v : Verdict) (a : Answer (List DefinedChange)) → change_refused begin last kind v ≡ None → begin ≡ None → if_kept a ≡ []
 brings_by None last kind v a h e = absurd (subst IsNones (sym h) tt)
 brings_by (Some begin) last kind v a h e = absurd (subst IsNones (sym e) tt)
 
@@ -464,13 +464,13 @@ module _ (tables : List Served) (last : ℕ) (before : List Message) (known : By
   quiet_so true e none = ap (changes_in tables (concat (pieces_of (before ++ m ∷ [])))) (rest_closed before m e)
   quiet_so false e none =
       let out = none_first (begin_of (rest_of before)) (or_begin m None) (sym (begin_next before m e) ∙ none) in
-      changes_next tables before m e ∙ ap (λ (xs : List Came). xs ++ more_of tables before m) (s.quiet out) ∙ brings tables last before m h out
+      changes_next tables before m e ∙ ap (λ (xs : List DefinedChange). xs ++ more_of tables before m) (s.quiet out) ∙ brings tables last before m h out
 
   still_so : (q : Bool) → is_commit m ≡ q → begin_of (rest_of (before ++ m ∷ [])) ≡ None → bytes_in tables (concat (pieces_of (before ++ m ∷ []))) (rest_of (before ++ m ∷ [])) ≡ 0
   still_so true e none = ap (bytes_in tables (concat (pieces_of (before ++ m ∷ [])))) (rest_closed before m e)
   still_so false e none =
       let out = none_first (begin_of (rest_of before)) (or_begin m None) (sym (begin_next before m e) ∙ none) in
-      bytes_next tables before m e ∙ ap (λ n. n + bytes_kept m (more_of tables before m)) (s.still out) ∙ ap (λ (xs : List Came). 0 + bytes_kept m xs) (brings tables last before m h out)
+      bytes_next tables before m e ∙ ap (λ n. n + bytes_kept m (more_of tables before m)) (s.still out) ∙ ap (λ (xs : List DefinedChange). 0 + bytes_kept m xs) (brings tables last before m h out)
 
   pub stands_on : Stands tables (before ++ m ∷ []) (put_by known m)
   stands_on = record {

@@ -4,11 +4,11 @@ use Rattle.std.proofs.lemmas.List.{append-nil}
 use Rattle.std.proofs.Common.{◌≡◌, ℕ, Result, ◌*◌, ◌+◌, ◌<◌, ◌≤◌, take, append_assoc, Bool, true, false, List, [], ◌∷◌, ◌++◌, length, refl, sym, ap, subst, ◌∙◌, arith, None, Some, Ok, Err, Option}
 use Rattle.std.specs.Option.{option_map}
 use Rattle.std.specs.Prelude.{if◌then◌else◌, ◌||◌, nat_le}
-use Rattle.shape_base.specs.declared.row.TableDef.{TableDef}
-use Rattle.shape_base.specs.declared.row.ChangeKind.{ChangeKind}
-use Rattle.shape_base.specs.declared.row.ChangeKind.TheVariants as kinds
-use Rattle.shape_base.specs.declared.row.Change.{Change}
-use Rattle.shape_base.specs.declared.row.Tx.{Tx}
+use Rattle.shape_base.specs.declared.definition.TableDef.{TableDef}
+use Rattle.shape_base.specs.declared.change.ChangeKind.{ChangeKind}
+use Rattle.shape_base.specs.declared.change.ChangeKind.TheVariants as kinds
+use Rattle.shape_base.specs.declared.change.Change.{Change}
+use Rattle.shape_base.specs.declared.change.Tx.{Tx}
 use Rattle.shape_base.specs.declared.served.Served.{Served}
 use Rattle.pgout.specs.declared.message.Message.{Message}
 use Rattle.std.specs.List.{flat_map}
@@ -19,7 +19,7 @@ use Rattle.relation_cache.specs.declared.relation.Relation as described
 use Rattle.tx_assembler.specs.declared.answer.AssembleError.{AssembleError}
 use Rattle.tx_assembler.specs.declared.answer.AssembleError.TheVariants as errors
 use Rattle.tx_assembler.specs.Answers.{Answer, next, Refuses}
-use Rattle.tx_assembler.specs.Kept.{Came, table_named, definition_of, change_under, target_of, truncated, bytes_of_some, bytes_kept, place_of_definition, with_change_at, with_change, with_changes, with_bytes}
+use Rattle.tx_assembler.specs.Kept.{DefinedChange, table_named, definition_of, change_under, target_of, truncated, bytes_of_some, bytes_kept, place_of_definition, with_change_at, with_change, with_changes, with_bytes}
 use Rattle.tx_assembler.specs.Whole.{most_bytes}
 use Rattle.tx_assembler.specs.Feeding.{grown, taken_by}
 use Rattle.tx_assembler.specs.Taking.{IsTaken, HasMore, definition_at, with_one, served_under, some_served, truncation, truncations}
@@ -127,24 +127,24 @@ served_end target [] true all h e = h
 served_end target [] false all h e = h
 served_end target (oid ∷ oids) found all h e = absurd (omega (arith, e))
 
-one_more : (t : Option (Option TableDef)) (oid : ℕ) (rest : Answer (List Came)) (later : Answer Bool) (cs : List Came) → rest ≡ next later (λ b. Ok cs)
+one_more : (t : Option (Option TableDef)) (oid : ℕ) (rest : Answer (List DefinedChange)) (later : Answer Bool) (cs : List DefinedChange) → rest ≡ next later (λ b. Ok cs)
     → next (change_under oid t (λ d. Ok kinds.Truncate)) (λ c. next rest (λ more. Ok (c ++ more)))
     ≡ next (next (served_under oid t) (λ here. next later (λ l. Ok (here || l)))) (λ b. Ok (truncation t ++ cs))
 one_more None oid rest later cs h = refl
-one_more (Some None) oid rest (Ok l) cs h = ap (λ (a : Answer (List Came)). next a (λ more. Ok more)) h
-one_more (Some None) oid rest (Err e) cs h = ap (λ (a : Answer (List Came)). next a (λ more. Ok more)) h
-one_more (Some (Some d)) oid rest (Ok l) cs h = ap (λ (a : Answer (List Came)). next a (λ more. Ok (record { definition = d; kind = kinds.Truncate } ∷ more))) h
-one_more (Some (Some d)) oid rest (Err e) cs h = ap (λ (a : Answer (List Came)). next a (λ more. Ok (record { definition = d; kind = kinds.Truncate } ∷ more))) h
+one_more (Some None) oid rest (Ok l) cs h = ap (λ (a : Answer (List DefinedChange)). next a (λ more. Ok more)) h
+one_more (Some None) oid rest (Err e) cs h = ap (λ (a : Answer (List DefinedChange)). next a (λ more. Ok more)) h
+one_more (Some (Some d)) oid rest (Ok l) cs h = ap (λ (a : Answer (List DefinedChange)). next a (λ more. Ok (record { definition = d; kind = kinds.Truncate } ∷ more))) h
+one_more (Some (Some d)) oid rest (Err e) cs h = ap (λ (a : Answer (List DefinedChange)). next a (λ more. Ok (record { definition = d; kind = kinds.Truncate } ∷ more))) h
 
 pub truncated_is : (target : ℕ → Option (Option TableDef)) (oids : List ℕ) → truncated target oids ≡ next (some_served target oids) (λ b. Ok (truncations target oids))
 truncated_is target [] = refl
 truncated_is target (oid ∷ oids) = one_more (target oid) oid (truncated target oids) (some_served target oids) (truncations target oids) (truncated_is target oids)
 
-abbrev has_some : List Came → Bool
+abbrev has_some : List DefinedChange → Bool
 has_some [] = false
 has_some (c ∷ cs) = true
 
-one_there : (t : Option (Option TableDef)) (oid : ℕ) (later : Answer Bool) (cs : List Came) (b : Bool) → ((l : Bool) → later ≡ Ok l → has_some cs ≡ l)
+one_there : (t : Option (Option TableDef)) (oid : ℕ) (later : Answer Bool) (cs : List DefinedChange) (b : Bool) → ((l : Bool) → later ≡ Ok l → has_some cs ≡ l)
     → next (served_under oid t) (λ here. next later (λ l. Ok (here || l))) ≡ Ok b → has_some (truncation t ++ cs) ≡ b
 one_there None oid later cs b h e = absurd (not_err _ _ e)
 one_there (Some None) oid (Ok l) cs b h e = h l refl ∙ ok_is l b e
@@ -156,11 +156,11 @@ there : (target : ℕ → Option (Option TableDef)) (oids : List ℕ) (b : Bool)
 there target [] b e = ok_is false b e
 there target (oid ∷ oids) b e = one_there (target oid) oid (some_served target oids) (truncations target oids) b (λ l. there target oids l) e
 
-some_bytes : (n : ℕ) (cs : List Came) → has_some cs ≡ true → bytes_of_some n cs ≡ n
+some_bytes : (n : ℕ) (cs : List DefinedChange) → has_some cs ≡ true → bytes_of_some n cs ≡ n
 some_bytes n [] h = absurd (bool_apart h)
 some_bytes n (c ∷ cs) h = refl
 
-no_some : (cs : List Came) → has_some cs ≡ false → cs ≡ []
+no_some : (cs : List DefinedChange) → has_some cs ≡ false → cs ≡ []
 no_some [] h = refl
 no_some (c ∷ cs) h = absurd (bool_apart (sym h))
 
@@ -168,24 +168,24 @@ no_some (c ∷ cs) h = absurd (bool_apart (sym h))
 pub truncates : (target : ℕ → Option (Option TableDef)) (oids : List ℕ) (tx : Tx) (n : ℕ) → some_served target oids ≡ Ok true
     → next (truncated target oids) (λ cs. grown tx (bytes_of_some n cs) cs) ≡ grown tx n (truncations target oids)
 truncates target oids tx n e =
-    ap (λ (a : Answer (List Came)). next a (λ cs. grown tx (bytes_of_some n cs) cs)) (truncated_is target oids ∙ ap (λ (a : Answer Bool). next a (λ b. Ok (truncations target oids))) e)
+    ap (λ (a : Answer (List DefinedChange)). next a (λ cs. grown tx (bytes_of_some n cs) cs)) (truncated_is target oids ∙ ap (λ (a : Answer Bool). next a (λ b. Ok (truncations target oids))) e)
     ∙ ap (λ k. grown tx k (truncations target oids)) (some_bytes n (truncations target oids) (there target oids true e))
 
 pub truncates_none : (target : ℕ → Option (Option TableDef)) (oids : List ℕ) (tx : Tx) (n : ℕ) → some_served target oids ≡ Ok false → tx.bytes ≤ most_bytes
     → next (truncated target oids) (λ cs. grown tx (bytes_of_some n cs) cs) ≡ Ok tx
 truncates_none target oids tx n e small =
-    ap (λ (a : Answer (List Came)). next a (λ cs. grown tx (bytes_of_some n cs) cs)) (truncated_is target oids ∙ ap (λ (a : Answer Bool). next a (λ b. Ok (truncations target oids))) e)
+    ap (λ (a : Answer (List DefinedChange)). next a (λ cs. grown tx (bytes_of_some n cs) cs)) (truncated_is target oids ∙ ap (λ (a : Answer Bool). next a (λ b. Ok (truncations target oids))) e)
     ∙ ap (λ cs. grown tx (bytes_of_some n cs) cs) (no_some (truncations target oids) (there target oids false e))
     ∙ nothing_more tx small
 
 pub truncates_refused : (target : ℕ → Option (Option TableDef)) (oids : List ℕ) (tx : Tx) (n : ℕ) (e : AssembleError) → Refuses e (some_served target oids)
     → Refuses e (next (truncated target oids) (λ cs. grown tx (bytes_of_some n cs) cs))
 truncates_refused target oids tx n e h m =
-    ap (λ (a : Answer (List Came)). next a (λ cs. grown tx (bytes_of_some n cs) cs)) (truncated_is target oids ∙ ap (λ (a : Answer Bool). next a (λ b. Ok (truncations target oids))) (h m))
+    ap (λ (a : Answer (List DefinedChange)). next a (λ cs. grown tx (bytes_of_some n cs) cs)) (truncated_is target oids ∙ ap (λ (a : Answer Bool). next a (λ b. Ok (truncations target oids))) (h m))
 
 -- ---- growing transactions
 
-pub with_both : (tx : Tx) (a b : List Came) → with_changes (with_changes tx a) b ≡ with_changes tx (a ++ b)
+pub with_both : (tx : Tx) (a b : List DefinedChange) → with_changes (with_changes tx a) b ≡ with_changes tx (a ++ b)
 with_both tx [] b = refl
 with_both tx (c ∷ a) b = with_both (with_change tx c) a b
 
@@ -195,7 +195,7 @@ with_lists tx ds cs = record { xid = tx.xid; lsn = tx.lsn; end = tx.end; bytes =
 pub more_none : (tx : Tx) → HasMore tx tx
 more_none tx = record { defs = []; changes = []; same = ap (λ ds. with_lists tx ds tx.changes) (sym (append-nil tx.defs)) ∙ ap (λ cs. with_lists tx (tx.defs ++ []) cs) (sym (append-nil tx.changes)) }
 
-more_at : (old tx : Tx) (c : Came) (place : Option ℕ) → HasMore old tx → HasMore old (with_change_at tx c place)
+more_at : (old tx : Tx) (c : DefinedChange) (place : Option ℕ) → HasMore old tx → HasMore old (with_change_at tx c place)
 more_at old tx c (Some p) h = record {
   defs = h.defs;
   changes = h.changes ++ record { def = p; kind = c.kind } ∷ [];
@@ -209,7 +209,7 @@ more_at old tx c None h = record {
       ∙ ap (λ ds. with_lists old ds (old.changes ++ (h.changes ++ record { def = length tx.defs; kind = c.kind } ∷ []))) (append_assoc old.defs h.defs (c.definition ∷ []));
 }
 
-pub more_changes : (old tx : Tx) (cs : List Came) → HasMore old tx → HasMore old (with_changes tx cs)
+pub more_changes : (old tx : Tx) (cs : List DefinedChange) → HasMore old tx → HasMore old (with_changes tx cs)
 more_changes old tx [] h = h
 more_changes old tx (c ∷ cs) h = more_changes old (with_change tx c) cs (more_at old tx c (place_of_definition tx.defs c.definition) h)
 

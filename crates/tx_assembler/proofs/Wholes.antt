@@ -4,12 +4,12 @@ use Rattle.std.proofs.lemmas.Bool.Decides.{Decides-eqb}
 use Rattle.std.specs.Prelude.{nat_le, ◌||◌, slice_get, IfSome, if◌then◌else◌, ◌==◌}
 use Rattle.std.specs.List.{list_any, AllByRecursion}
 use Rattle.std.specs.Option.{option_map, IsSomeAnd}
-use Rattle.shape_base.proofs.Tests.{Decides-same_def}
-use Rattle.shape_base.specs.declared.row.TableDef.{TableDef}
-use Rattle.shape_base.specs.declared.row.Change.{Change}
-use Rattle.shape_base.specs.declared.row.ChangeKind.{ChangeKind}
-use Rattle.shape_base.specs.declared.row.ChangeKind.TheVariants as kinds
-use Rattle.shape_base.specs.declared.row.Tx.{Tx}
+use Rattle.shape_base.proofs.Lemmas.{Decides-same_def}
+use Rattle.shape_base.specs.declared.definition.TableDef.{TableDef}
+use Rattle.shape_base.specs.declared.change.Change.{Change}
+use Rattle.shape_base.specs.declared.change.ChangeKind.{ChangeKind}
+use Rattle.shape_base.specs.declared.change.ChangeKind.TheVariants as kinds
+use Rattle.shape_base.specs.declared.change.Tx.{Tx}
 use Rattle.shape_base.specs.Tables.{Values, same_def}
 use Rattle.pgout.specs.declared.message.Field.{Field}
 use Rattle.pgout.specs.declared.message.Before.{Before}
@@ -20,12 +20,13 @@ use Rattle.tx_assembler.specs.declared.answer.AssembleError.{AssembleError}
 use Rattle.tx_assembler.specs.declared.answer.AssembleError.TheVariants as errors
 use Rattle.tx_assembler.specs.Answers.{Answer, next}
 use Rattle.tx_assembler.specs.Rows.{value_of, values_of, row_of}
-use Rattle.tx_assembler.specs.Kept.{Came, place_of_definition, with_change_at, with_change, with_changes, with_bytes, change_under, inserted, update_of, updated, delete_of, deleted, truncated, changes_of, bytes_of_some, bytes_kept}
+use Rattle.tx_assembler.specs.Kept.{DefinedChange, place_of_definition, with_change_at, with_change, with_changes, with_bytes, change_under, inserted, update_of, updated, delete_of, deleted, truncated, changes_of, bytes_of_some, bytes_kept}
 use Rattle.pgout.specs.Grammar.{spelled}
 use Rattle.std.proofs.lemmas.Bool.{leb-true}
 use Rattle.tx_assembler.specs.Feeding.{within_limit, grown, taken_by, empty_tx, ended}
 use Rattle.tx_assembler.proofs.Targets.{truncate_size}
-use Rattle.tx_assembler.specs.Whole.{most_bytes, IsAsWide, IsUnder, AreOnce, IsWhole}
+use Rattle.tx_assembler.specs.Whole.{most_bytes, AreOnce, IsAssembled}
+use Rattle.shape_base.specs.Transactions.{IsAsWide, IsUnder}
 
 -- ---- answers
 
@@ -70,7 +71,7 @@ row_wide width before fields vs h = row_turn width before fields vs (length fiel
 
 -- ---- the changes that a message brings
 
-abbrev IsWide : Came → Type 0
+abbrev IsWide : DefinedChange → Type 0
 IsWide c = IsAsWide c.definition c.kind
 
 inserted_wide : (row : List Field) (d : TableDef) (k : ChangeKind) → inserted row d ≡ Ok k → IsAsWide d k
@@ -100,24 +101,24 @@ deleted_wide oid (Key old) d k h = absurd (not_err _ k h)
 deleted_wide oid (Whole old) d k h = delete_wide old d k h
 
 -- changes that are wide, and no more of them than so many
-pub record AreKept (most : ℕ) (cs : List Came) : Type 0 where
+pub record AreKept (most : ℕ) (cs : List DefinedChange) : Type 0 where
   pub wide : AllByRecursion IsWide cs
   pub few : length cs ≤ most
 
-one_kept : (oid : ℕ) (target : Option (Option TableDef)) (kind : TableDef → Answer ChangeKind) → ((d : TableDef) (k : ChangeKind) → kind d ≡ Ok k → IsAsWide d k) → (cs : List Came) → change_under oid target kind ≡ Ok cs → AreKept 1 cs
+one_kept : (oid : ℕ) (target : Option (Option TableDef)) (kind : TableDef → Answer ChangeKind) → ((d : TableDef) (k : ChangeKind) → kind d ≡ Ok k → IsAsWide d k) → (cs : List DefinedChange) → change_under oid target kind ≡ Ok cs → AreKept 1 cs
 one_kept oid None kind w cs h = absurd (not_err _ cs h)
 one_kept oid (Some None) kind w cs h = said (AreKept 1) [] cs h (record { wide = tt; few = omega arith })
 one_kept oid (Some (Some d)) kind w cs h =
     through (IsAsWide d) (AreKept 1) (kind d) (λ k. Ok (record { definition = d; kind = k } ∷ [])) (w d)
     (λ k p cs g. said (AreKept 1) (record { definition = d; kind = k } ∷ []) cs g (record { wide = (p, tt); few = omega arith })) cs h
 
-both_kept : (m n : ℕ) (a b : List Came) → AreKept m a → AreKept n b → AreKept (m + n) (a ++ b)
+both_kept : (m n : ℕ) (a b : List DefinedChange) → AreKept m a → AreKept n b → AreKept (m + n) (a ++ b)
 both_kept m n [] b h k = record { wide = k.wide; few = omega (arith, k.few) }
 both_kept m n (c ∷ a) b h k =
     let rest = both_kept (length a) n a b (record { wide = h.wide.1; few = omega arith }) k in
     record { wide = (h.wide.0, rest.wide); few = omega (arith, h.few, rest.few) }
 
-truncated_kept : (target : ℕ → Option (Option TableDef)) (oids : List ℕ) (cs : List Came) → truncated target oids ≡ Ok cs → AreKept (length oids) cs
+truncated_kept : (target : ℕ → Option (Option TableDef)) (oids : List ℕ) (cs : List DefinedChange) → truncated target oids ≡ Ok cs → AreKept (length oids) cs
 truncated_kept target [] cs h = said (AreKept 0) [] cs h (record { wide = tt; few = omega arith })
 truncated_kept target (oid ∷ oids) cs h =
     through (AreKept 1) (AreKept (length (oid ∷ oids))) (change_under oid (target oid) (λ d. Ok kinds.Truncate)) (λ a. next (truncated target oids) (λ b. Ok (a ++ b)))
@@ -185,28 +186,28 @@ pub record Grows (tx : Tx) : Type 0 where
   pub under : AllByRecursion (IsUnder tx.defs) tx.changes
   pub once : AreOnce tx.defs
 
-grows_at : (tx : Tx) (c : Came) (place : Option ℕ) → Grows tx → IsWide c → IfSome place (Finds tx.defs c.kind) → (IsNones place → IsNones (place_of_definition tx.defs c.definition)) → Grows (with_change_at tx c place)
+grows_at : (tx : Tx) (c : DefinedChange) (place : Option ℕ) → Grows tx → IsWide c → IfSome place (Finds tx.defs c.kind) → (IsNones place → IsNones (place_of_definition tx.defs c.definition)) → Grows (with_change_at tx c place)
 grows_at tx c (Some p) g w f n = record { under = all_last tx.defs tx.changes (record { def = p; kind = c.kind }) g.under f; once = g.once }
 grows_at tx c None g w f n = record {
   under = all_last (tx.defs ++ c.definition ∷ []) tx.changes (record { def = length tx.defs; kind = c.kind }) (all_more tx.defs (c.definition ∷ []) tx.changes g.under) (finds_last tx.defs c.definition c.kind w);
   once = once_last tx.defs c.definition g.once (n tt);
 }
 
-grows : (tx : Tx) (cs : List Came) → Grows tx → AllByRecursion IsWide cs → Grows (with_changes tx cs)
+grows : (tx : Tx) (cs : List DefinedChange) → Grows tx → AllByRecursion IsWide cs → Grows (with_changes tx cs)
 grows tx [] g w = g
 grows tx (c ∷ cs) g w = grows (with_change tx c) cs (grows_at tx c (place_of_definition tx.defs c.definition) g w.0 (found tx.defs c.definition c.kind w.0) (λ n. n)) w.1
 
-count_at : (tx : Tx) (c : Came) (place : Option ℕ) → length (with_change_at tx c place).changes ≡ length tx.changes + 1
+count_at : (tx : Tx) (c : DefinedChange) (place : Option ℕ) → length (with_change_at tx c place).changes ≡ length tx.changes + 1
 count_at tx c (Some p) = length-append tx.changes (record { def = p; kind = c.kind } ∷ [])
 count_at tx c None = length-append tx.changes (record { def = length tx.defs; kind = c.kind } ∷ [])
 
-count : (tx : Tx) (cs : List Came) → length (with_changes tx cs).changes ≡ length tx.changes + length cs
+count : (tx : Tx) (cs : List DefinedChange) → length (with_changes tx cs).changes ≡ length tx.changes + length cs
 count tx [] = omega arith
 count tx (c ∷ cs) = omega (arith, count (with_change tx c) cs, count_at tx c (place_of_definition tx.defs c.definition))
 
 -- ---- the transaction after a message
 
-few_bytes : (n most : ℕ) (cs : List Came) → length cs ≤ most → most ≤ n → length cs ≤ bytes_of_some n cs
+few_bytes : (n most : ℕ) (cs : List DefinedChange) → length cs ≤ most → most ≤ n → length cs ≤ bytes_of_some n cs
 few_bytes n most [] h k = omega arith
 few_bytes n most (c ∷ cs) h k = omega (arith, h, k)
 
@@ -217,25 +218,27 @@ limit_turn bytes most out false t h = absurd (not_err _ out h)
 within_is : (bytes out : ℕ) → within_limit bytes ≡ Ok out → (out ≡ bytes) × (bytes ≤ most_bytes)
 within_is bytes out h = limit_turn bytes most_bytes out (nat_le bytes most_bytes) (λ t. leb-true bytes most_bytes t) h
 
-whole_with : (tx : Tx) (cs : List Came) (more out : ℕ) → IsWhole tx → AllByRecursion IsWide cs → length cs ≤ more → out ≡ tx.bytes + more → out ≤ most_bytes → IsWhole (with_bytes (with_changes tx cs) out)
+whole_with : (tx : Tx) (cs : List DefinedChange) (more out : ℕ) → IsAssembled tx → AllByRecursion IsWide cs → length cs ≤ more → out ≡ tx.bytes + more → out ≤ most_bytes → IsAssembled (with_bytes (with_changes tx cs) out)
+unfolding most_bytes
 whole_with tx cs more out whole w few is small =
-    let g = grows tx cs (record { under = whole.under; once = whole.once }) w in
-    record { under = g.under; once = g.once; few = omega (arith, count tx cs, whole.few, few, is); within = small }
+    let g = grows tx cs (record { under = whole.whole.under; once = whole.once }) w in
+    let fewer : length (with_changes tx cs).changes ≤ out = omega (arith, count tx cs, whole.few, few, is) in
+    record { whole = record { under = g.under; few = omega (arith, fewer, small) }; once = g.once; few = fewer; within = small }
 
-whole_grown : (tx : Tx) (cs : List Came) (more : ℕ) (new : Tx) → IsWhole tx → AllByRecursion IsWide cs → length cs ≤ more → grown tx more cs ≡ Ok new → IsWhole new
+whole_grown : (tx : Tx) (cs : List DefinedChange) (more : ℕ) (new : Tx) → IsAssembled tx → AllByRecursion IsWide cs → length cs ≤ more → grown tx more cs ≡ Ok new → IsAssembled new
 whole_grown tx cs more new whole w few h =
-    through (λ out. (out ≡ tx.bytes + more) × (tx.bytes + more ≤ most_bytes)) IsWhole (within_limit (tx.bytes + more)) (λ bytes. Ok (with_bytes (with_changes tx cs) bytes)) (within_is (tx.bytes + more))
-    (λ out p new g. said IsWhole (with_bytes (with_changes tx cs) out) new g (whole_with tx cs more out whole w few p.0 (omega (arith, p.0, p.1)))) new h
+    through (λ out. (out ≡ tx.bytes + more) × (tx.bytes + more ≤ most_bytes)) IsAssembled (within_limit (tx.bytes + more)) (λ bytes. Ok (with_bytes (with_changes tx cs) bytes)) (within_is (tx.bytes + more))
+    (λ out p new g. said IsAssembled (with_bytes (with_changes tx cs) out) new g (whole_with tx cs more out whole w few p.0 (omega (arith, p.0, p.1)))) new h
 
-whole_by : (tx : Tx) (m : Message) (target : ℕ → Option (Option TableDef)) (most : ℕ) (new : Tx) → IsWhole tx → ((cs : List Came) → changes_of target m ≡ Ok cs → AreKept most cs) → most ≤ length (spelled m) → taken_by tx m target ≡ Ok new → IsWhole new
+whole_by : (tx : Tx) (m : Message) (target : ℕ → Option (Option TableDef)) (most : ℕ) (new : Tx) → IsAssembled tx → ((cs : List DefinedChange) → changes_of target m ≡ Ok cs → AreKept most cs) → most ≤ length (spelled m) → taken_by tx m target ≡ Ok new → IsAssembled new
 whole_by tx m target most new whole kept size h =
-    through (AreKept most) IsWhole (changes_of target m) (λ cs. grown tx (bytes_kept m cs) cs) kept
+    through (AreKept most) IsAssembled (changes_of target m) (λ cs. grown tx (bytes_kept m cs) cs) kept
     (λ cs p new g. whole_grown tx cs (bytes_kept m cs) new whole p.wide (few_bytes (length (spelled m)) most cs p.few size) g) new h
 
-nothing_kept : (cs : List Came) → ◌≡◌ {A = Answer (List Came)} (Ok []) (Ok cs) → AreKept 0 cs
+nothing_kept : (cs : List DefinedChange) → ◌≡◌ {A = Answer (List DefinedChange)} (Ok []) (Ok cs) → AreKept 0 cs
 nothing_kept cs h = said (AreKept 0) [] cs h (record { wide = tt; few = omega arith })
 
-none_kept : (oid : ℕ) (target : Option (Option TableDef)) (kind : TableDef → Answer ChangeKind) → ((d : TableDef) (k : ChangeKind) → kind d ≡ Ok k → ⊥) → (cs : List Came) → change_under oid target kind ≡ Ok cs → AreKept 0 cs
+none_kept : (oid : ℕ) (target : Option (Option TableDef)) (kind : TableDef → Answer ChangeKind) → ((d : TableDef) (k : ChangeKind) → kind d ≡ Ok k → ⊥) → (cs : List DefinedChange) → change_under oid target kind ≡ Ok cs → AreKept 0 cs
 none_kept oid None kind w cs h = absurd (not_err _ cs h)
 none_kept oid (Some None) kind w cs h = nothing_kept cs h
 none_kept oid (Some (Some d)) kind w cs h = through (λ k. ⊥) (AreKept 0) (kind d) (λ k. Ok (record { definition = d; kind = k } ∷ [])) (w d) (λ k p cs g. absurd p) cs h
@@ -246,7 +249,7 @@ update_size oid (Key old) row = omega arith
 update_size oid (Whole old) row = omega arith
 
 -- a transaction stays whole with each message
-pub whole_taken : (tx : Tx) (m : Message) (target : ℕ → Option (Option TableDef)) (new : Tx) → IsWhole tx → taken_by tx m target ≡ Ok new → IsWhole new
+pub whole_taken : (tx : Tx) (m : Message) (target : ℕ → Option (Option TableDef)) (new : Tx) → IsAssembled tx → taken_by tx m target ≡ Ok new → IsAssembled new
 whole_taken tx (Insert oid row) target new whole h = whole_by tx (Insert oid row) target 1 new whole (one_kept oid (target oid) (inserted row) (inserted_wide row)) (omega arith) h
 whole_taken tx (Update oid before row) target new whole h = whole_by tx (Update oid before row) target 1 new whole (one_kept oid (target oid) (updated oid before row) (updated_wide oid before row)) (update_size oid before row) h
 whole_taken tx (Delete oid Absent) target new whole h = whole_by tx (Delete oid Absent) target 0 new whole (none_kept oid (target oid) (deleted oid Absent) (λ d k e. not_err _ k e)) (omega arith) h
@@ -261,10 +264,10 @@ whole_taken tx (Relation oid ns name identity columns) target new whole h = whol
 whole_taken tx (TypeName oid ns name) target new whole h = whole_by tx (TypeName oid ns name) target 0 new whole nothing_kept (omega arith) h
 
 -- a transaction that begins is whole
-pub whole_empty : (lsn xid : ℕ) → IsWhole (empty_tx lsn xid)
+pub whole_empty : (lsn xid : ℕ) → IsAssembled (empty_tx lsn xid)
 unfolding most_bytes
-whole_empty lsn xid = record { under = tt; once = tt; few = omega arith; within = omega arith }
+whole_empty lsn xid = record { whole = record { under = tt; few = omega arith }; once = tt; few = omega arith; within = omega arith }
 
 -- a transaction that ends stays whole
-pub whole_ended : (tx : Tx) (end : ℕ) → IsWhole tx → IsWhole (ended tx end)
-whole_ended tx end whole = record { under = whole.under; once = whole.once; few = whole.few; within = whole.within }
+pub whole_ended : (tx : Tx) (end : ℕ) → IsAssembled tx → IsAssembled (ended tx end)
+whole_ended tx end whole = record { whole = record { under = whole.whole.under; few = whole.whole.few }; once = whole.once; few = whole.few; within = whole.within }

@@ -1,8 +1,8 @@
 -- What an assembler answers to one message.
 use Rattle.std.specs.Prelude.{◌≡◌, ℕ, ◌+◌, nat_le, ◌==◌, if◌then◌else◌, List, [], Option, Result, Ok, Err, MatchBool}
 use Rattle.std.specs.FinMap as map
-use Rattle.shape_base.specs.declared.row.TableDef.{TableDef}
-use Rattle.shape_base.specs.declared.row.Tx.{Tx}
+use Rattle.shape_base.specs.declared.definition.TableDef.{TableDef}
+use Rattle.shape_base.specs.declared.change.Tx.{Tx}
 use Rattle.pgout.specs.declared.message.Message.{Message}
 use Rattle.pgout.specs.declared.message.Message.TheVariants.{Begin, Logical, Commit, Origin, Relation, TypeName, Insert, Update, Delete, Truncate}
 use Rattle.relation_cache.specs.declared.relation.Relation as described
@@ -14,7 +14,7 @@ use Rattle.tx_assembler.specs.declared.stage.Stage.{Stage}
 use Rattle.tx_assembler.specs.declared.stage.Stage.TheVariants.{Outside, Passing, Taking, Refused}
 use Rattle.tx_assembler.specs.Answers.{Answer, next, is_memory, Refuses}
 use Rattle.tx_assembler.specs.Rows.{relation_of}
-use Rattle.tx_assembler.specs.Kept.{Came, target_of, changes_of, bytes_kept, with_changes, with_bytes}
+use Rattle.tx_assembler.specs.Kept.{DefinedChange, target_of, changes_of, bytes_kept, with_changes, with_bytes}
 use Rattle.tx_assembler.specs.Situation.{Situation}
 use Rattle.tx_assembler.specs.Whole.{most_bytes}
 
@@ -75,7 +75,7 @@ abbrev pub within_limit : ℕ → Answer ℕ
 within_limit bytes = if nat_le bytes most_bytes then Ok bytes else Err (errors.TxTooLarge bytes most_bytes)
 
 -- the transaction with these changes more, whose message has so many bytes
-abbrev pub grown : Tx → ℕ → List Came → Answer Tx
+abbrev pub grown : Tx → ℕ → List DefinedChange → Answer Tx
 grown tx more cs = next (within_limit (tx.bytes + more)) (λ bytes. Ok (with_bytes (with_changes tx cs) bytes))
 
 -- the transaction after a message of changes, where the tables' definitions are these

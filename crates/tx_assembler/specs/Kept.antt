@@ -1,10 +1,10 @@
 -- What is kept of a message: the changes of served tables.
 use Rattle.std.specs.Prelude.{ℕ, ◌+◌, Bool, ◌&&◌, if◌then◌else◌, List, [], ◌∷◌, ◌++◌, length, Ok, Err, Option, None, Some}
 use Rattle.std.specs.Option.{option_map}
-use Rattle.shape_base.specs.declared.row.TableDef.{TableDef}
-use Rattle.shape_base.specs.declared.row.ChangeKind.{ChangeKind}
-use Rattle.shape_base.specs.declared.row.ChangeKind.TheVariants as kinds
-use Rattle.shape_base.specs.declared.row.Tx.{Tx}
+use Rattle.shape_base.specs.declared.definition.TableDef.{TableDef}
+use Rattle.shape_base.specs.declared.change.ChangeKind.{ChangeKind}
+use Rattle.shape_base.specs.declared.change.ChangeKind.TheVariants as kinds
+use Rattle.shape_base.specs.declared.change.Tx.{Tx}
 use Rattle.shape_base.specs.declared.served.Served.{Served}
 use Rattle.shape_base.specs.Tables.{same_text, same_def}
 use Rattle.pgout.specs.declared.message.Field.{Field}
@@ -35,12 +35,12 @@ abbrev pub definition_of : List Served → described.Relation → Option TableDe
 definition_of tables r = option_map (λ t. record { table = t; oid = r.oid; columns = r.columns }) (table_named tables r.ns r.name)
 
 -- a change of a served table, and the definition under which it came
-pub record Came : Type 0 where
+pub record DefinedChange : Type 0 where
   pub definition : TableDef
   pub kind : ChangeKind
 
 -- one change of a table, whose relation is unknown, or of no served table, or gives this definition
-abbrev pub change_under : ℕ → Option (Option TableDef) → (TableDef → Answer ChangeKind) → Answer (List Came)
+abbrev pub change_under : ℕ → Option (Option TableDef) → (TableDef → Answer ChangeKind) → Answer (List DefinedChange)
 change_under oid None kind = Err (errors.UnknownRelation oid)
 change_under oid (Some None) kind = Ok []
 change_under oid (Some (Some d)) kind = next (kind d) (λ k. Ok (record { definition = d; kind = k } ∷ []))
@@ -72,12 +72,12 @@ abbrev pub target_of : List Served → (ℕ → Option described.Relation) → �
 target_of tables known oid = option_map (definition_of tables) (known oid)
 
 -- one truncation for each served table, in the message's order
-abbrev pub truncated : (ℕ → Option (Option TableDef)) → List ℕ → Answer (List Came)
+abbrev pub truncated : (ℕ → Option (Option TableDef)) → List ℕ → Answer (List DefinedChange)
 truncated target [] = Ok []
 truncated target (oid ∷ oids) = next (change_under oid (target oid) (λ d. Ok kinds.Truncate)) (λ cs. next (truncated target oids) (λ more. Ok (cs ++ more)))
 
 -- the changes of served tables that a message brings, where the relations are these
-abbrev pub changes_of : (ℕ → Option (Option TableDef)) → Message → Answer (List Came)
+abbrev pub changes_of : (ℕ → Option (Option TableDef)) → Message → Answer (List DefinedChange)
 changes_of target (Insert oid row) = change_under oid (target oid) (inserted row)
 changes_of target (Update oid before row) = change_under oid (target oid) (updated oid before row)
 changes_of target (Delete oid before) = change_under oid (target oid) (deleted oid before)
@@ -90,11 +90,11 @@ changes_of target (Relation oid ns name identity columns) = Ok []
 changes_of target (TypeName oid ns name) = Ok []
 
 -- a message's bytes count where some change of it is kept
-abbrev pub bytes_of_some : ℕ → List Came → ℕ
+abbrev pub bytes_of_some : ℕ → List DefinedChange → ℕ
 bytes_of_some bytes [] = 0
 bytes_of_some bytes (c ∷ cs) = bytes
 
-abbrev pub bytes_kept : Message → List Came → ℕ
+abbrev pub bytes_kept : Message → List DefinedChange → ℕ
 bytes_kept m cs = bytes_of_some (length (spelled m)) cs
 
 -- the place of the first definition that is equal
@@ -102,15 +102,15 @@ abbrev pub place_of_definition : List TableDef → TableDef → Option ℕ
 place_of_definition defs d = place_where (λ e. same_def e d) defs
 
 -- the transaction with a change more under the definition in this place, or under one that it does not have yet
-abbrev pub with_change_at : Tx → Came → Option ℕ → Tx
+abbrev pub with_change_at : Tx → DefinedChange → Option ℕ → Tx
 with_change_at tx c (Some p) = record { xid = tx.xid; lsn = tx.lsn; end = tx.end; bytes = tx.bytes; defs = tx.defs; changes = tx.changes ++ record { def = p; kind = c.kind } ∷ [] }
 with_change_at tx c None = record { xid = tx.xid; lsn = tx.lsn; end = tx.end; bytes = tx.bytes; defs = tx.defs ++ c.definition ∷ []; changes = tx.changes ++ record { def = length tx.defs; kind = c.kind } ∷ [] }
 
-abbrev pub with_change : Tx → Came → Tx
+abbrev pub with_change : Tx → DefinedChange → Tx
 with_change tx c = with_change_at tx c (place_of_definition tx.defs c.definition)
 
 -- the transaction with these changes more, each definition once
-abbrev pub with_changes : Tx → List Came → Tx
+abbrev pub with_changes : Tx → List DefinedChange → Tx
 with_changes tx [] = tx
 with_changes tx (c ∷ cs) = with_changes (with_change tx c) cs
 

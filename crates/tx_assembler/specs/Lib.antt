@@ -6,4 +6,4 @@ pub mod Situation
 pub mod Feeding
 pub mod Taking
 pub mod Shown
-pub mod Courses
+pub mod Stream

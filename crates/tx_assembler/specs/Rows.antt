@@ -2,9 +2,9 @@
 use Rattle.std.specs.Prelude.{ℕ, ◌+◌, ◌==◌, if◌then◌else◌, List, [], ◌∷◌, length, codes, Ok, Err, Option, None, Some, slice_get}
 use Rattle.std.specs.Str.{is_utf8}
 use Rattle.std.specs.Str.Lossy.{utf8_valid_len}
-use Rattle.shape_base.specs.declared.row.Value.{Value}
-use Rattle.shape_base.specs.declared.row.Value.TheVariants as values
-use Rattle.shape_base.specs.declared.row.Column.{Column}
+use Rattle.shape_base.specs.declared.value.Value.{Value}
+use Rattle.shape_base.specs.declared.value.Value.TheVariants as values
+use Rattle.shape_base.specs.declared.definition.Column.{Column}
 use Rattle.shape_base.specs.Tables.{Values}
 use Rattle.pgout.specs.declared.message.Field.{Field}
 use Rattle.pgout.specs.declared.message.Field.TheVariants.{Null, Unsent, Chars, Binary}

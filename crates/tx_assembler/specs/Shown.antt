@@ -1,12 +1,13 @@
 -- What a stream shows: the transactions of its stretches, each whole from Begin to Commit, without repeats.
 use Rattle.std.specs.Prelude.{◌≡◌, ℕ, ◌+◌, max, nat_le, ◌==◌, Bool, true, false, if◌then◌else◌, List, [], ◌∷◌, ◌++◌, length, map, take, Ok, Err, Option, None, Some, slice_get}
-use Rattle.shape_base.specs.declared.row.TableDef.{TableDef}
-use Rattle.shape_base.specs.declared.row.Change.{Change}
-use Rattle.shape_base.specs.declared.row.ChangeKind.{ChangeKind}
-use Rattle.shape_base.specs.declared.row.Tx.{Tx}
+use Rattle.shape_base.specs.declared.definition.TableDef.{TableDef}
+use Rattle.shape_base.specs.declared.change.Change.{Change}
+use Rattle.shape_base.specs.declared.change.ChangeKind.{ChangeKind}
+use Rattle.shape_base.specs.declared.change.Tx.{Tx}
 use Rattle.shape_base.specs.declared.served.Served.{Served}
 use Rattle.shape_base.specs.declared.history.History.{History}
 use Rattle.shape_base.specs.Tables.{commits_of}
+use Rattle.shape_base.specs.Transactions.{meaning}
 use Rattle.pgout.specs.declared.message.Message.{Message}
 use Rattle.pgout.specs.declared.message.Message.TheVariants.{Begin, Logical, Commit, Origin, Relation, TypeName, Insert, Update, Delete, Truncate}
 use Rattle.relation_cache.specs.declared.relation.Relation as described
@@ -14,7 +15,7 @@ use Rattle.tx_assembler.specs.declared.answer.AssembleError.{AssembleError}
 use Rattle.tx_assembler.specs.declared.answer.AssembleError.TheVariants as errors
 use Rattle.tx_assembler.specs.Answers.{Answer}
 use Rattle.tx_assembler.specs.Rows.{relation_of}
-use Rattle.tx_assembler.specs.Kept.{Came, target_of, changes_of, bytes_kept, with_changes}
+use Rattle.tx_assembler.specs.Kept.{DefinedChange, target_of, changes_of, bytes_kept, with_changes}
 use Rattle.tx_assembler.specs.Feeding.{empty_tx, within_limit}
 
 -- ---- streams
@@ -145,16 +146,16 @@ abbrev pub end_of : List Message → ℕ
 end_of [] = 0
 end_of (m ∷ ms) = or_end m (end_of ms)
 
-abbrev pub if_kept : Answer (List Came) → List Came
+abbrev pub if_kept : Answer (List DefinedChange) → List DefinedChange
 if_kept (Ok cs) = cs
 if_kept (Err e) = []
 
 -- the changes of served tables that a message brings after others
-abbrev pub changes_after : List Served → List Message → Message → Answer (List Came)
+abbrev pub changes_after : List Served → List Message → Message → Answer (List DefinedChange)
 changes_after tables before m = changes_of (target_of tables (last_relation before)) m
 
 -- the changes of served tables that messages bring after others
-abbrev pub changes_in : List Served → List Message → List Message → List Came
+abbrev pub changes_in : List Served → List Message → List Message → List DefinedChange
 changes_in tables before [] = []
 changes_in tables before (m ∷ ms) = if_kept (changes_after tables before m) ++ changes_in tables (before ++ m ∷ []) ms
 
@@ -194,7 +195,7 @@ commit_refused None lsn = Some (errors.OutOfOrder 0 67)
 commit_refused (Some begin) lsn = if begin.0 == lsn then None else Some (errors.LsnMismatch begin.0 lsn)
 
 -- a message that brings changes, behind so many bytes of its transaction
-abbrev pub changes_refused : Answer (List Came) → Message → ℕ → Verdict
+abbrev pub changes_refused : Answer (List DefinedChange) → Message → ℕ → Verdict
 changes_refused (Err e) m bytes = Some e
 changes_refused (Ok cs) m bytes = refusal_in (within_limit (bytes + bytes_kept m cs))
 
@@ -253,10 +254,6 @@ shown_from tables last (stretch ∷ stretches) =
 -- What a stream shows to one who serves these tables.
 abbrev pub shown : List Served → List Stretch → List Tx
 shown tables stream = shown_from tables 0 stream
-
--- What a transaction does: its LSN, its id, and its changes, each with the definition under which it came. Where it ends and how large it is says nothing of that.
-abbrev pub meaning : Tx → (ℕ × ℕ) × List (Option TableDef × ChangeKind)
-meaning tx = ((tx.lsn, tx.xid), map (λ (c : Change). (slice_get tx.defs c.def, c.kind)) tx.changes)
 
 -- A stream shows a history: what it shows does what the first commits of the history do, in order, none skipped.
 pub record Shows (h : History) (stream : List Stretch) : Type 0 where

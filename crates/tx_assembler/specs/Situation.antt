@@ -4,7 +4,7 @@ use Rattle.shape_base.specs.declared.served.Served.{Served}
 use Rattle.relation_cache.specs.Relations.{ByOid}
 use Rattle.tx_assembler.specs.declared.stage.Stage.{Stage}
 use Rattle.tx_assembler.specs.declared.stage.Stage.TheVariants.{Outside, Passing, Taking, Refused}
-use Rattle.tx_assembler.specs.Whole.{IsWhole}
+use Rattle.tx_assembler.specs.Whole.{IsAssembled}
 
 pub record Situation : Type 0 where
   pub tables : List Served
@@ -12,11 +12,11 @@ pub record Situation : Type 0 where
   pub last : ℕ
   pub stage : Stage
 
--- a transaction so far is whole
+-- a transaction so far is one that may be given
 abbrev pub IsWholeStage : Stage → Type 0
 IsWholeStage Outside = Unit {0}
 IsWholeStage (Passing begin) = Unit {0}
-IsWholeStage (Taking tx) = IsWhole tx
+IsWholeStage (Taking tx) = IsAssembled tx
 IsWholeStage (Refused e) = Unit {0}
 
 -- what every assembler keeps

@@ -3,16 +3,16 @@ use Rattle.std.specs.Prelude.{◌≡◌, ℕ, Bool, true, false, ◌||◌, lengt
 use Rattle.std.specs.List.{flat_map}
 use Rattle.pgout.specs.declared.message.Field.{Field}
 use Rattle.pgout.specs.Grammar.{field}
-use Rattle.shape_base.specs.declared.row.TableDef.{TableDef}
-use Rattle.shape_base.specs.declared.row.ChangeKind.{ChangeKind}
-use Rattle.shape_base.specs.declared.row.ChangeKind.TheVariants as kinds
-use Rattle.shape_base.specs.declared.row.Change.{Change}
-use Rattle.shape_base.specs.declared.row.Tx.{Tx}
+use Rattle.shape_base.specs.declared.definition.TableDef.{TableDef}
+use Rattle.shape_base.specs.declared.change.ChangeKind.{ChangeKind}
+use Rattle.shape_base.specs.declared.change.ChangeKind.TheVariants as kinds
+use Rattle.shape_base.specs.declared.change.Change.{Change}
+use Rattle.shape_base.specs.declared.change.Tx.{Tx}
 use Rattle.relation_cache.specs.declared.relation.Relation as described
 use Rattle.tx_assembler.specs.declared.answer.AssembleError.{AssembleError}
 use Rattle.tx_assembler.specs.declared.answer.AssembleError.TheVariants as errors
 use Rattle.tx_assembler.specs.Answers.{Answer, next, Refuses}
-use Rattle.tx_assembler.specs.Kept.{Came}
+use Rattle.tx_assembler.specs.Kept.{DefinedChange}
 use Rattle.tx_assembler.specs.Feeding.{grown}
 
 -- the transaction after the call is the answer; after a refusal it is as it was
@@ -29,12 +29,12 @@ abbrev pub with_one : Tx → ℕ → TableDef → ChangeKind → Answer Tx
 with_one tx size d kind = grown tx size (record { definition = d; kind = kind } ∷ [])
 
 -- a truncation of this table, where it is served
-abbrev pub truncation : Option (Option TableDef) → List Came
+abbrev pub truncation : Option (Option TableDef) → List DefinedChange
 truncation None = []
 truncation (Some None) = []
 truncation (Some (Some d)) = record { definition = d; kind = kinds.Truncate } ∷ []
 
-abbrev pub truncations : (ℕ → Option (Option TableDef)) → List ℕ → List Came
+abbrev pub truncations : (ℕ → Option (Option TableDef)) → List ℕ → List DefinedChange
 truncations target [] = []
 truncations target (oid ∷ oids) = truncation (target oid) ++ truncations target oids
 

@@ -1,6 +1,5 @@
 //! What the assembler answers to a message.
-use shape_base::memory::OutOfMemory;
-use shape_base::row::Tx;
+use shape_base::{OutOfMemory, Tx};
 
 /// What a message led to.
 #[derive(Drop)]

@@ -1,5 +1,5 @@
 //! The assembler.
-ghost use Rattle.std.specs.Prelude.{◌≡◌, ◌<◌, length, IfOk, IfErr, Some, None, true};
+ghost use Rattle.std.specs.Prelude.{◌≡◌, ◌<◌, length, IfOk, IfErr, Some, None, true, []};
 ghost use Rattle.std.specs.FinMap as map;
 ghost use Rattle.pgout.specs.declared.message.Message.TheVariants as messages;
 ghost use Rattle.pgout.specs.Grammar.{Fits};
@@ -7,18 +7,17 @@ ghost use Rattle.relation_cache.specs.Relations.{ByOid};
 ghost use Rattle.tx_assembler.specs.declared.stage.Stage.TheVariants as stages;
 ghost use Rattle.tx_assembler.specs.Answers.{Gives, next};
 ghost use Rattle.tx_assembler.specs.Rows.{relation_of};
-ghost use Rattle.tx_assembler.specs.Whole.{IsWholeFed};
+ghost use Rattle.tx_assembler.specs.Whole.{GivesAssembled};
+ghost use Rattle.tx_assembler.specs.Stream.{at_start, reopened, HasTaken, TakesOn, BeginsOn, IsLastTaken};
 ghost use Rattle.tx_assembler.specs.Feeding.{opened, begun, committed, changed, related, received, turn_of, may_begin, may_end, same_lsn, IsTurned, IsFed};
 
 use super::answer::{AssembleError, Fed};
-use super::made::relation_of;
+use super::described::relation_of;
+use super::kept::take;
 use super::stage::Stage;
-use super::takes::take;
 use pgout::{ColumnsSent, Message};
 use relation_cache::Relations;
-use shape_base::history::ServedTables;
-use shape_base::memory::OutOfMemory;
-use shape_base::row::{Changes, Octets, TableDefs, Tx};
+use shape_base::{Changes, Octets, OutOfMemory, ServedTables, TableDefs, Tx};
 use std::alloc::Global;
 use std::marker::Model;
 use std::mem;
@@ -51,7 +50,8 @@ impl Assembler {
     /// An assembler before a stream, for these served tables.
     pub fn new(alloc: Global, tables: ServedTables) -> Result<Assembler, OutOfMemory>
         requires { length tables < 4294967296 }
-        ensures { IfOk result (λ made. made ≡ record { tables = tables; relations = map.empty; last = 0; stage = stages.Outside }) }
+        ensures start { IfOk result (λ assembler. assembler ≡ at_start tables 0) }
+        ensures taken { IfOk result (λ assembler. HasTaken tables [] [] assembler) }
     {
         Ok(Assembler {
             alloc,
@@ -63,16 +63,20 @@ impl Assembler {
     }
 
     /// The stream begins anew: relations and a half-built transaction are gone, and the LSN of the last transaction stays.
+    #[tactic(auto, using(crate::proofs::Taken::begins_on))]
     pub fn reopen(&mut self)
-        ensures { self.new ≡ record { tables = self.old.tables; relations = map.empty; last = self.old.last; stage = stages.Outside } }
+        ensures start { self.new ≡ reopened self.old }
+        ensures taken { BeginsOn self.old self.new }
     {
         self.relations = Relations::new(self.alloc);
         self.stage = Stage::Outside;
     }
 
     /// The LSN of the last transaction that was given, or 0.
+    #[tactic(auto, using(crate::proofs::Taken::last_taken))]
     pub fn last(&self) -> u64
-        ensures { result ≡ self.now.last }
+        ensures last { result ≡ self.now.last }
+        ensures taken { IsLastTaken self.now result }
     {
         self.last
     }
@@ -80,10 +84,21 @@ impl Assembler {
     /// Takes the next message of the stream.
     ///
     /// A refusal but want of memory ends the transaction and stands until `reopen`; want of memory leaves the assembler as it was.
+    #[tactic(auto, using(crate::proofs::Taken::takes_on))]
     pub fn feed(&mut self, message: Message) -> Result<Fed, AssembleError>
         requires { Fits message }
+        // Whatever was taken before, the answer is the due one, and the transactions given are those that the stream shows.
+        ensures taken { TakesOn self.old message result self.new }
         ensures fed { IsFed self.old message result self.new }
-        ensures whole { IfOk result IsWholeFed }
+        ensures whole { IfOk result GivesAssembled }
+    {
+        self.answer(message)
+    }
+
+    fn answer(&mut self, message: Message) -> Result<Fed, AssembleError>
+        requires { Fits message }
+        ensures fed { IsFed self.old message result self.new }
+        ensures whole { IfOk result GivesAssembled }
     {
         match self.receive(message) {
             Ok(fed) => Ok(fed),
@@ -99,7 +114,7 @@ impl Assembler {
     fn receive(&mut self, message: Message) -> Result<Fed, AssembleError>
         requires { Fits message }
         ensures turned { IsTurned self.old (turn_of self.old message) result self.new }
-        ensures whole { IfOk result IsWholeFed }
+        ensures whole { IfOk result GivesAssembled }
     {
         if let Stage::Refused(error) = self.stage {
             return Err(error);
@@ -130,7 +145,7 @@ impl Assembler {
 
     fn begin(&mut self, lsn: u64, xid: u32) -> Result<Fed, AssembleError>
         ensures turned { IsTurned self.old (begun self.old self.old.stage lsn xid) result self.new }
-        ensures whole { IfOk result IsWholeFed }
+        ensures whole { IfOk result GivesAssembled }
     {
         check_begin(&self.stage)?;
         self.stage = opened(self.alloc, self.last, lsn, xid);
@@ -139,7 +154,7 @@ impl Assembler {
 
     fn commit(&mut self, lsn: u64, end: u64) -> Result<Fed, AssembleError>
         ensures turned { IsTurned self.old (committed self.old self.old.stage lsn end) result self.new }
-        ensures whole { IfOk result IsWholeFed }
+        ensures whole { IfOk result GivesAssembled }
     {
         check_end(&self.stage, lsn)?;
         match mem::replace(&mut self.stage, Stage::Outside) {
@@ -163,7 +178,7 @@ impl Assembler {
         columns: ColumnsSent,
     ) -> Result<Fed, AssembleError>
         ensures turned { IsTurned self.old (next (relation_of oid ns name columns) (related self.old)) result self.new }
-        ensures whole { IfOk result IsWholeFed }
+        ensures whole { IfOk result GivesAssembled }
     {
         let relation = relation_of(self.alloc, oid, ns, name, columns)?;
         self.relations.put(relation)?;
@@ -173,7 +188,7 @@ impl Assembler {
     fn change(&mut self, kind: u8, message: Message) -> Result<Fed, AssembleError>
         requires { Fits message }
         ensures turned { IsTurned self.old (changed self.old self.old.stage kind message) result self.new }
-        ensures whole { IfOk result IsWholeFed }
+        ensures whole { IfOk result GivesAssembled }
     {
         match &mut self.stage {
             Stage::Outside => {

@@ -1,5 +1,5 @@
 //! The law over whole streams, the contract of a function with nothing to do.
-ghost use Rattle.tx_assembler.specs.Courses.{FedIsShown};
+ghost use Rattle.tx_assembler.specs.Stream.{FedIsShown};
 
 /// Over the messages of a stream, with a reopening before each of its stretches, each answer is the due one: a refusal by its name from the first refused message of
 /// a stretch on, at each Commit before it a transaction or a repeat, and else nothing. The transactions are those that the stream shows.

@@ -6,13 +6,13 @@
 
 mod answer;
 mod assembler;
+mod described;
+mod kept;
 pub mod laws;
-mod made;
 mod rows;
 mod sizes;
 mod stage;
 mod tables;
-mod takes;
 mod transactions;
 
 pub use answer::{AssembleError, Fed};

@@ -5,9 +5,7 @@ ghost use Rattle.tx_assembler.specs.Rows.{text_of, value_before, value_of, value
 
 use super::answer::AssembleError;
 use pgout::{Field, Fields};
-use shape_base::memory::{Duplicate, OutOfMemory};
-use shape_base::row::{Octets, Row, Value};
-use shape_base::text::Text;
+use shape_base::{Duplicate, Octets, OutOfMemory, Row, Text, Value};
 use std::alloc::Global;
 
 /// The text of bytes, which are taken over and not copied.

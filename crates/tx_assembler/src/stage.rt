@@ -1,6 +1,6 @@
 //! Where in a stream the assembler stands.
 use super::answer::AssembleError;
-use shape_base::row::Tx;
+use shape_base::Tx;
 
 /// Where in a stream the assembler stands.
 #[derive(Drop)]

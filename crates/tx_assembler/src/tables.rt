@@ -2,8 +2,7 @@
 ghost use Rattle.std.specs.Prelude.{◌≡◌, ◌<◌, length};
 ghost use Rattle.tx_assembler.specs.Kept.{is_named, table_named};
 
-use shape_base::served::Served;
-use shape_base::text::Text;
+use shape_base::{Served, Text};
 
 fn is_named(table: &Served, ns: &Text, name: &Text) -> bool
     ensures { result ≡ is_named ns.now name.now table.now }

@@ -5,9 +5,7 @@ ghost use Rattle.tx_assembler.specs.Kept.{place_of_definition, with_change, with
 ghost use Rattle.tx_assembler.specs.Taking.{definition_at};
 
 use relation_cache::Relation;
-use shape_base::memory::{Duplicate, OutOfMemory};
-use shape_base::row::{Change, ChangeKind, TableDef, Tx};
-use shape_base::seq::Seq;
+use shape_base::{Change, ChangeKind, Duplicate, OutOfMemory, Seq, TableDef, Tx};
 use std::alloc::Global;
 use std::mem;
 

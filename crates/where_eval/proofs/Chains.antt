@@ -1,8 +1,8 @@
 -- Loops over chains: what is left gives the same answer.
 use Rattle.std.proofs.Common.{◌≡◌, List, [], ◌∷◌, ◌++◌, map, Option, refl, sym, ap, ◌∙◌, append_assoc}
-use Rattle.shape_base.specs.declared.row.Tri.{Tri}
-use Rattle.shape_base.specs.declared.row.Tri.TheVariants.{True, False, Unknown}
-use Rattle.shape_base.specs.declared.row.Column.{Column}
+use Rattle.shape_base.specs.declared.truth.Tri.{Tri}
+use Rattle.shape_base.specs.declared.truth.Tri.TheVariants.{True, False, Unknown}
+use Rattle.shape_base.specs.declared.definition.Column.{Column}
 use Rattle.where_grammar.specs.Tree.{Tree, Trees, TreeAnd}
 use Rattle.where_eval.specs.declared.leaves.Leaf.{Leaf}
 use Rattle.where_eval.specs.Logic.{any_of, all_of, or_of, and_of}

@@ -1,7 +1,7 @@
 -- A plan of each form has the meaning of its tree where its parts have.
 use Rattle.std.proofs.Common.{◌≡◌, ℕ, Bool, List, [], ◌∷◌, ◌++◌, map, Option, refl, sym, ap, ◌∙◌, append_assoc}
 use Rattle.std.specs.Str.{chars}
-use Rattle.shape_base.specs.declared.row.Column.{Column}
+use Rattle.shape_base.specs.declared.definition.Column.{Column}
 use Rattle.shape_base.specs.Tables.{Values}
 use Rattle.pg_values.specs.declared.kind.Kind.{Kind}
 use Rattle.pg_values.specs.declared.kind.Kind.TheVariants as kinds

@@ -7,10 +7,9 @@ use Rattle.std.specs.BTreeMap.{BTreeMap, is_at}
 use Rattle.std.specs.Map.{lookup}
 use Rattle.std.specs.Cmp.{eq_by_cmp_equiv}
 use Rattle.std.specs.Cmp.Lexicographic.{nat_list_cmp_total}
-use Rattle.shape_base.specs.declared.row.Column.{Column}
+use Rattle.shape_base.specs.declared.definition.Column.{Column}
 use Rattle.shape_base.specs.Tables.{same_text, place_of}
-use Rattle.shape_base.proofs.MapLaws.{text_cmp, tied, same_from_tied, tied_self}
-use Rattle.shape_base.proofs.Tests.{Decides-same_text}
+use Rattle.shape_base.proofs.Lemmas.{text_cmp, tied, same_from_tied, tied_self, Decides-same_text}
 use Rattle.where_eval.specs.Indexed.{place_under, IsIndex}
 
 -- the test of equality is the one by order

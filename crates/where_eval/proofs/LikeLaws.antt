@@ -1,10 +1,10 @@
 -- The test of LIKE is its relation.
 use Rattle.std.proofs.Common.{◌≡◌, ◌≢◌, ℕ, Bool, true, false, List, [], ◌∷◌, ◌++◌, ◌==◌, ◌&&◌, if◌then◌else◌, refl, sym, ap, ◌∙◌, subst, ⊎_elim}
-use Rattle.std.proofs.lemmas.Bool.{eqb-true, eq-eqb}
+use Rattle.std.proofs.lemmas.Bool.{eqb-true, eq-eqb, and_from, or_right}
 use Rattle.std.proofs.lemmas.Bool.Decides.{eqb_tells}
 use Rattle.where_eval.specs.declared.like.Piece.TheVariants.{Run, One, Exactly}
 use Rattle.where_eval.specs.Like.{percent, underscore, backslash, IsLike, ended, a_run, a_character, escaped, itself, is_cut, is_cut_behind, piece_of, pieces_of, pieces_behind, on_some_end, behind, fits}
-use Rattle.where_eval.proofs.Likes.{begins, either, or_right, and_right}
+use Rattle.where_eval.proofs.Likes.{begins, either, and_right}
 
 and_left : (a b : Bool) → (a && b) ≡ true → a ≡ true
 and_left true b h = refl
@@ -85,15 +85,11 @@ to_like (c ∷ d ∷ rest) text whole h = ⊎_elim
 different : (a b : ℕ) → a ≢ b → (a == b) ≡ false
 different a b h = ⊎_elim (λ (t : ((a == b) ≡ true) × (a ≡ b)). absurd (h t.1)) (λ (t : ((a == b) ≡ false) × (a ≢ b)). t.0) (eqb_tells a b)
 
-both_true : (a b : Bool) → a ≡ true → b ≡ true → (a && b) ≡ true
-both_true true b h g = g
-both_true false b h g = absurd (cc)
-
 pub from_like : {pattern text : List ℕ} → IsLike pattern text → fits (pieces_of pattern) text ≡ true
 from_like ended = refl
 from_like (a_run pattern run rest l) = from_end (fits (pieces_of pattern)) run rest (from_like l)
 from_like (a_character pattern c rest l) = from_like l
-from_like (escaped c pattern rest l) = both_true (c == c) (fits (pieces_of pattern) rest) (eq-eqb c c refl) (from_like l)
+from_like (escaped c pattern rest l) = and_from (c == c) (fits (pieces_of pattern) rest) (eq-eqb c c refl) (from_like l)
 from_like (itself c pattern rest p u b l) =
     ap (λ ps. fits ps (c ∷ rest)) (pieces_then c pattern false (different c backslash b) ∙ ap (λ x. x ∷ pieces_of pattern) (asks_itself c (different c percent p) (different c underscore u)))
-    ∙ both_true (c == c) (fits (pieces_of pattern) rest) (eq-eqb c c refl) (from_like l)
+    ∙ and_from (c == c) (fits (pieces_of pattern) rest) (eq-eqb c c refl) (from_like l)

@@ -1,5 +1,6 @@
 -- Laws of LIKE: going along what is asked for and the text.
 use Rattle.std.proofs.Common.{◌≡◌, ◌≤◌, ℕ, Bool, true, false, ◌&&◌, ◌||◌, List, [], ◌∷◌, length, refl, sym, ap, ◌∙◌, arith, subst}
+use Rattle.std.proofs.lemmas.Bool.{or_left, or_right}
 use Rattle.where_eval.specs.declared.like.Piece.{Piece}
 use Rattle.where_eval.specs.declared.like.Piece.TheVariants.{Run, One, Exactly}
 use Rattle.where_eval.specs.Like.{is_run, takes, behind, on_some_end, fits}
@@ -11,14 +12,6 @@ same_tests true true f g = refl
 same_tests true false f g = sym (f refl)
 same_tests false true f g = g refl
 same_tests false false f g = refl
-
-pub or_right : (a b : Bool) → b ≡ true → (a || b) ≡ true
-or_right true b h = refl
-or_right false b h = h
-
-or_left : (a b : Bool) → a ≡ true → (a || b) ≡ true
-or_left true b h = refl
-or_left false b h = absurd (cc)
 
 -- from one of two
 pub either : {C : Type 0} → (a b : Bool) → (a || b) ≡ true → (a ≡ true → C) → (b ≡ true → C) → C

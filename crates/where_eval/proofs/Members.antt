@@ -1,6 +1,6 @@
 -- The loop that looks for faults among members.
 use Rattle.std.proofs.Common.{◌≡◌, ℕ, List, [], ◌∷◌, Option, Some, None, refl, sym, ap, ◌∙◌}
-use Rattle.shape_base.specs.declared.row.Column.{Column}
+use Rattle.shape_base.specs.declared.definition.Column.{Column}
 use Rattle.pg_values.specs.declared.kind.Kind.{Kind}
 use Rattle.where_grammar.specs.Tree.{Tree, Trees, NoTree, TreeAnd}
 use Rattle.where_eval.specs.declared.faults.CheckError.{CheckError}

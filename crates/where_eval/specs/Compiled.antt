@@ -1,6 +1,6 @@
 -- A plan has the meaning of a tree.
 use Rattle.std.specs.Prelude.{◌≡◌, List}
-use Rattle.shape_base.specs.declared.row.Column.{Column}
+use Rattle.shape_base.specs.declared.definition.Column.{Column}
 use Rattle.shape_base.specs.Tables.{Values}
 use Rattle.pg_values.specs.declared.kind.Kind.{Kind}
 use Rattle.where_grammar.specs.Tree.{Tree, Trees}

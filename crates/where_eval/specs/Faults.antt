@@ -3,7 +3,7 @@ use Rattle.std.specs.Prelude.{ℕ, Bool, not, ◌||◌, List, [], ◌∷◌, if�
 use Rattle.std.specs.List.{list_all}
 use Rattle.std.specs.Option.{option_map}
 use Rattle.std.specs.Str.{chars}
-use Rattle.shape_base.specs.declared.row.Column.{Column}
+use Rattle.shape_base.specs.declared.definition.Column.{Column}
 use Rattle.pg_values.specs.declared.kind.Kind.{Kind}
 use Rattle.pg_values.specs.declared.kind.Kind.TheVariants as kinds
 use Rattle.where_grammar.specs.declared.words.IsTest.{IsTest}

@@ -1,6 +1,6 @@
 -- The kinds of a clause's parts.
 use Rattle.std.specs.Prelude.{ℕ, Bool, true, false, not, List, [], ◌∷◌, Option, Some, None, slice_index_or}
-use Rattle.shape_base.specs.declared.row.Column.{Column}
+use Rattle.shape_base.specs.declared.definition.Column.{Column}
 use Rattle.shape_base.specs.Tables.{place_of}
 use Rattle.pg_values.specs.declared.kind.Kind.{Kind}
 use Rattle.pg_values.specs.declared.kind.Kind.TheVariants as kinds

@@ -1,9 +1,9 @@
 -- Laws of truth.
 use Rattle.std.specs.Prelude.{◌≡◌, ◌≢◌, ℕ, Bool, true, false, List, map, length, Some, is_none}
 use Rattle.std.specs.List.{list_any, range_with_len}
-use Rattle.shape_base.specs.declared.row.Column.{Column}
-use Rattle.shape_base.specs.declared.row.Tri.{Tri}
-use Rattle.shape_base.specs.declared.row.Tri.TheVariants.{Unknown}
+use Rattle.shape_base.specs.declared.definition.Column.{Column}
+use Rattle.shape_base.specs.declared.truth.Tri.{Tri}
+use Rattle.shape_base.specs.declared.truth.Tri.TheVariants.{Unknown}
 use Rattle.shape_base.specs.Tables.{Values}
 use Rattle.pg_values.specs.declared.kind.Kind.{Kind}
 use Rattle.where_lexer.specs.declared.token.CmpOp.TheVariants.{Eq, Ge, Le}

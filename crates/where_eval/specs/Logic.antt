@@ -1,8 +1,8 @@
 -- Three-valued logic (PostgreSQL manual 9.1).
 use Rattle.std.specs.Prelude.{Bool, true, false, List, if◌then◌else◌}
 use Rattle.std.specs.List.{list_any}
-use Rattle.shape_base.specs.declared.row.Tri.{Tri}
-use Rattle.shape_base.specs.declared.row.Tri.TheVariants.{True, False, Unknown}
+use Rattle.shape_base.specs.declared.truth.Tri.{Tri}
+use Rattle.shape_base.specs.declared.truth.Tri.TheVariants.{True, False, Unknown}
 
 abbrev pub of_bool : Bool → Tri
 of_bool true = True

@@ -1,6 +1,6 @@
 -- What looking for faults among members must answer.
 use Rattle.std.specs.Prelude.{◌≡◌, ℕ, List, Result, Ok, Err, Some, None}
-use Rattle.shape_base.specs.declared.row.Column.{Column}
+use Rattle.shape_base.specs.declared.definition.Column.{Column}
 use Rattle.pg_values.specs.declared.kind.Kind.{Kind}
 use Rattle.where_grammar.specs.Tree.{Trees}
 use Rattle.where_eval.specs.declared.faults.CheckError.{CheckError}

@@ -1,13 +1,13 @@
 -- What a checked clause means.
 use Rattle.std.specs.Prelude.{List, [], ◌∷◌, map, Option, Some, None, slice_index_or}
-use Rattle.shape_base.specs.declared.row.Value.TheVariants as values
+use Rattle.shape_base.specs.declared.value.Value.TheVariants as values
 use Rattle.shape_base.specs.Tables.{Values}
 use Rattle.where_lexer.specs.declared.token.CmpOp.TheVariants as ops
 use Rattle.where_eval.specs.declared.constant.Constant.{Constant}
 use Rattle.where_eval.specs.declared.constant.Constant.TheVariants as constants
 use Rattle.where_eval.specs.declared.plan.Plan as plans
 use Rattle.where_eval.specs.declared.plan.Plans as chains
-use Rattle.shape_base.specs.declared.row.Tri.{Tri}
+use Rattle.shape_base.specs.declared.truth.Tri.{Tri}
 use Rattle.where_eval.specs.Logic.{of_bool, not_of, all_of, any_of, negated}
 use Rattle.where_eval.specs.Scalars.{Scalar, Truth, Number, Words, Id, read_cell, tri_of, of_tri, compared, is_distinct, passes, fits_scalar}
 

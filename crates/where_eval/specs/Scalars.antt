@@ -4,10 +4,10 @@ use Rattle.std.specs.Str.{chars}
 use Rattle.std.specs.Ordering.{nat_cmp, int_cmp, bool_cmp, is_lt, is_le, is_gt, is_ge, is_eq}
 use Rattle.std.specs.Cmp.Lexicographic.{slice_cmp}
 use Rattle.std.specs.declared.cmp.Ordering.{Ordering}
-use Rattle.shape_base.specs.declared.row.Tri.{Tri}
-use Rattle.shape_base.specs.declared.row.Tri.TheVariants as tri
-use Rattle.shape_base.specs.declared.row.Value.{Value}
-use Rattle.shape_base.specs.declared.row.Value.TheVariants as values
+use Rattle.shape_base.specs.declared.truth.Tri.{Tri}
+use Rattle.shape_base.specs.declared.truth.Tri.TheVariants as tri
+use Rattle.shape_base.specs.declared.value.Value.{Value}
+use Rattle.shape_base.specs.declared.value.Value.TheVariants as values
 use Rattle.pg_values.specs.declared.kind.Kind.{Kind}
 use Rattle.pg_values.specs.declared.kind.Kind.TheVariants as kinds
 use Rattle.pg_values.specs.Values.{has_value, truth_value, number_value, uuid_value}

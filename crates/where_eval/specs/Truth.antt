@@ -1,10 +1,10 @@
 -- The truth of a row under a clause.
 use Rattle.std.specs.Prelude.{ℕ, Bool, false, not, ◌&&◌, List, [], ◌∷◌, map, length, if◌then◌else◌, Option, Some, None, slice_index_or}
 use Rattle.std.specs.List.{list_any, range_with_len}
-use Rattle.shape_base.specs.declared.row.Column.{Column}
-use Rattle.shape_base.specs.declared.row.Tri.{Tri}
-use Rattle.shape_base.specs.declared.row.Value.{Value}
-use Rattle.shape_base.specs.declared.row.Value.TheVariants as values
+use Rattle.shape_base.specs.declared.definition.Column.{Column}
+use Rattle.shape_base.specs.declared.truth.Tri.{Tri}
+use Rattle.shape_base.specs.declared.value.Value.{Value}
+use Rattle.shape_base.specs.declared.value.Value.TheVariants as values
 use Rattle.shape_base.specs.Tables.{Values, place_of}
 use Rattle.pg_values.specs.declared.kind.Kind.{Kind}
 use Rattle.pg_values.specs.declared.kind.Kind.TheVariants as kinds

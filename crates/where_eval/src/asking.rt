@@ -16,7 +16,7 @@ use crate::kinds::{all_suit, is_bad_literal, kind_of_list, kind_of_three, kind_o
 use crate::leaves::stepped;
 use crate::like::is_cut;
 use pg_values::kind::Kind;
-use shape_base::text::Text;
+use shape_base::Text;
 use where_parser::expr::{Expr, Exprs, IsTest};
 
 /// The fault of a node over parts of this kind: a mismatch where they may not be compared or do not all suit, or else

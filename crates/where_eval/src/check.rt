@@ -13,8 +13,7 @@ use crate::compile::compile;
 use crate::faults::CheckError;
 use crate::leaves::{Leaf, add_leaves, first_unknown};
 use pg_values::kind::Kind;
-use shape_base::memory::OutOfMemory;
-use shape_base::row::Columns;
+use shape_base::{Columns, OutOfMemory};
 use std::alloc::Global;
 use where_parser::expr::Expr;
 

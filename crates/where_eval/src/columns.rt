@@ -5,9 +5,7 @@ ghost use Rattle.where_eval.specs.Kinds.{kind_at as kind_in};
 ghost use Rattle.where_eval.specs.Indexed.{place_under, IsIndex};
 
 use pg_values::kind::{Kind, kind_of};
-use shape_base::memory::{Duplicate, OutOfMemory};
-use shape_base::row::Columns;
-use shape_base::text::Text;
+use shape_base::{Columns, Duplicate, OutOfMemory, Text};
 use std::alloc::Global;
 use std::collections::BTreeMap;
 use std::marker::Model;
@@ -21,7 +19,7 @@ pub struct Index {
 
 impl Model for Index {
     ghost use Rattle.std.specs.Prelude.{List};
-    ghost use Rattle.shape_base.specs.declared.row.Column.{Column};
+    ghost use Rattle.shape_base.specs.declared.definition.Column.{Column};
     ghost use Rattle.where_eval.specs.Indexed.{IsIndex};
 
     ghost Value = { List Column };

@@ -16,8 +16,7 @@ use crate::kinds::{kind_of_list, kind_of_three, kind_of_two};
 use crate::like::pieces;
 use crate::plan::{Plan, Plans};
 use pg_values::kind::Kind;
-use shape_base::memory::{Duplicate, OutOfMemory};
-use shape_base::text::Text;
+use shape_base::{Duplicate, OutOfMemory, Text};
 use std::alloc::Global;
 use where_parser::expr::{CmpOp, Expr, Exprs, IsTest};
 

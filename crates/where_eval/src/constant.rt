@@ -1,4 +1,4 @@
-use shape_base::text::Text;
+use shape_base::Text;
 
 /// A constant of a clause, read under the kind that its place asks for.
 #[derive(Drop)]

@@ -8,8 +8,7 @@ use crate::like::{Piece, fits};
 use crate::logic::of_bool;
 use pg_values::kind::Kind;
 use pg_values::value::{read_bool, read_int, read_uuid};
-use shape_base::row::{Tri, Value};
-use shape_base::text::Text;
+use shape_base::{Text, Tri, Value};
 use std::cmp::Ordering;
 use where_parser::expr::{CmpOp, IsTest};
 

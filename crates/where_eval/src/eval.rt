@@ -2,7 +2,7 @@
 ghost use Rattle.std.specs.Prelude.{◌≡◌, ◌∷◌, [], map, slice_index_or};
 ghost use Rattle.where_lexer.specs.declared.token.CmpOp.TheVariants as ops;
 ghost use Rattle.where_eval.specs.Logic.{any_of, all_of};
-ghost use Rattle.shape_base.specs.declared.row.Value.TheVariants.{Null};
+ghost use Rattle.shape_base.specs.declared.value.Value.TheVariants.{Null};
 ghost use Rattle.where_eval.specs.Scalars.{read_cell as read_value, tri_of as tri_of_scalar, compared as compared_scalars};
 ghost use Rattle.where_eval.specs.Data.{seen, wish};
 ghost use Rattle.where_eval.specs.Plans.{meaning, meanings, scalar_of, truth_beside};
@@ -12,7 +12,7 @@ use crate::datum::{Datum, compared, is_distinct, like, of_tri, passes, read_cell
 use crate::logic::{and_of, negated, not_of, of_bool, or_of};
 use crate::plan::{Plan, Plans};
 use pg_values::kind::Kind;
-use shape_base::row::{Row, Tri};
+use shape_base::{Row, Tri};
 use where_parser::expr::CmpOp;
 
 fn constant(constant: &Constant) -> Datum

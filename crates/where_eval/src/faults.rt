@@ -1,5 +1,5 @@
 //! Why a clause cannot be checked.
-use shape_base::memory::OutOfMemory;
+use shape_base::OutOfMemory;
 
 /// Why a clause cannot be checked against columns. An atom is the number of a leaf, from 0, left to right: a name, an
 /// integer, a string, TRUE, FALSE, NULL, or the pattern of LIKE. Numbers stand still at 2^32 - 1.

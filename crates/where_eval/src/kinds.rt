@@ -10,7 +10,7 @@ ghost use Rattle.where_eval.specs.Kinds.{kind_of_part, kind_in_place, common, or
 use crate::columns::{Index, kind_at, place_of};
 use pg_values::kind::Kind;
 use pg_values::value::has_value;
-use shape_base::text::Text;
+use shape_base::Text;
 use where_parser::expr::{Expr, Exprs};
 
 /// An OID of a type of this kind.

@@ -5,8 +5,7 @@ ghost use Rattle.where_parser.specs.View.{tree_of, trees_of};
 ghost use Rattle.where_eval.specs.Leaves.{leaves as leaves_of, all_leaves, leaf_at, stepped as stepped_number, unknown_from};
 
 use crate::columns::{Index, place_of};
-use shape_base::memory::OutOfMemory;
-use shape_base::text::Text;
+use shape_base::{OutOfMemory, Text};
 use where_parser::expr::{Expr, Exprs};
 
 /// What a leaf is to a table.

@@ -4,7 +4,7 @@ ghost use Rattle.std.specs.Str.{chars, IsUtf8};
 ghost use Rattle.where_eval.specs.Like.{pieces_of, is_cut as is_cut_pattern, piece_of, is_run as is_run_piece, takes as takes_character, fits as fits_text};
 ghost use Rattle.where_eval.specs.Walks.{IsRight};
 
-use shape_base::memory::OutOfMemory;
+use shape_base::OutOfMemory;
 use std::alloc::Global;
 
 /// What a pattern asks for in one place.

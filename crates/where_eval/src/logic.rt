@@ -2,7 +2,7 @@
 ghost use Rattle.std.specs.Prelude.{◌≡◌};
 ghost use Rattle.where_eval.specs.Logic.{of_bool as tri_of_bool, not_of as not_of_tri, negated as negated_tri, or_of as or_tri, and_of as and_tri};
 
-use shape_base::row::Tri;
+use shape_base::Tri;
 
 /// True or false.
 pub fn of_bool(holds: bool) -> Tri

@@ -1,6 +1,6 @@
 //! The truth of a row.
 ghost use Rattle.std.specs.Prelude.{◌≡◌, ◌≤◌, length, List, false, ℕ, MatchOption, slice_index_or};
-ghost use Rattle.shape_base.specs.declared.row.Column.{Column};
+ghost use Rattle.shape_base.specs.declared.definition.Column.{Column};
 ghost use Rattle.pg_values.specs.declared.kind.Kind.TheVariants.{Other};
 ghost use Rattle.where_grammar.specs.Tree.{Tree};
 ghost use Rattle.shape_base.specs.Shape.{IsLeast};
@@ -13,8 +13,7 @@ use crate::eval::value;
 use crate::kinds::oid_of;
 use pg_values::kind::Kind;
 use pg_values::value::has_value;
-use shape_base::row::{Row, Tri, Value};
-use shape_base::row_test::BadValue;
+use shape_base::{BadValue, Row, Tri, Value};
 
 fn is_unreadable(kind: Kind, value: &Value) -> bool
     ensures { result ≡ cannot_be_read kind value.now }

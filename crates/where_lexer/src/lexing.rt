@@ -7,8 +7,7 @@ ghost use Rattle.where_lexer.specs.Classes.{passes, besides, PassAll};
 
 use super::class::Class;
 use super::token::{CmpOp, Token};
-use shape_base::memory::OutOfMemory;
-use shape_base::text::Text;
+use shape_base::{OutOfMemory, Text};
 use std::alloc::Global;
 
 fn is_space(b: u8) -> bool

@@ -1,4 +1,4 @@
-use shape_base::text::Text;
+use shape_base::Text;
 
 /// How two sides are compared.
 #[derive(Clone, Copy, Debug, Drop)]

@@ -8,8 +8,7 @@ ghost use Rattle.where_lexer.specs.Writing.{appended, put, blank, with_tokens, I
 use super::lexing::{next_byte, until};
 use super::token::{CmpOp, Token};
 use itoa::Buffer;
-use shape_base::memory::OutOfMemory;
-use shape_base::text::Text;
+use shape_base::{OutOfMemory, Text};
 use std::alloc::Global;
 use std::marker::Model;
 

@@ -4,7 +4,7 @@ ghost use Rattle.where_grammar.specs.Grammar.{any_of, all_of};
 ghost use Rattle.where_parser.specs.View.{tree_of, trees_of};
 
 use super::expr::{Expr, Exprs};
-use shape_base::memory::OutOfMemory;
+use shape_base::OutOfMemory;
 use std::alloc::Global;
 use where_grammar::words::IsTest;
 use where_lexer::token::CmpOp;

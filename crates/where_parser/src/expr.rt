@@ -1,4 +1,4 @@
-use shape_base::text::Text;
+use shape_base::Text;
 pub use where_grammar::words::IsTest;
 pub use where_lexer::token::CmpOp;
 

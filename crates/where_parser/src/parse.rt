@@ -9,8 +9,7 @@ ghost use Rattle.where_parser.specs.Whole.{IsTreeOf, IsSyntaxAt, IsDeepAt, Fault
 use super::expr::Expr;
 use super::reading::read;
 use super::stop::Stop;
-use shape_base::memory::OutOfMemory;
-use shape_base::text::Text;
+use shape_base::{OutOfMemory, Text};
 use std::alloc::Global;
 use where_lexer::lexing::{Lexed, lex};
 

@@ -8,8 +8,7 @@ ghost use Rattle.where_grammar.specs.Printing.{level as level_of, part, canonica
 ghost use Rattle.where_parser.specs.View.{tree_of, trees_of};
 
 use super::expr::{Expr, Exprs};
-use shape_base::memory::OutOfMemory;
-use shape_base::text::Text;
+use shape_base::{OutOfMemory, Text};
 use std::alloc::Global;
 use where_grammar::words::IsTest;
 use where_lexer::token::{CmpOp, Token};

@@ -1,7 +1,7 @@
 ghost use Rattle.std.specs.Prelude.{◌≡◌};
 ghost use Rattle.where_parser.specs.declared.stop.Stop.TheVariants.{Memory};
 
-use shape_base::memory::OutOfMemory;
+use shape_base::OutOfMemory;
 use std::alloc::{AllocError, AllocFailed};
 use where_lexer::token::Token;
 

@@ -1,6 +1,6 @@
 use Rattle.std.proofs.Common.{◌≡◌, drop}
 use Rattle.std.specs.List.{list_any, slice_get}
-use Rattle.shape_base.specs.declared.row.Change.{Change}
+use Rattle.shape_base.specs.declared.change.Change.{Change}
 use Rattle.shape_model.specs.Checks.{is_own, touches}
 use Rattle.shape_model.proofs.checks.touches.Given as goal
 

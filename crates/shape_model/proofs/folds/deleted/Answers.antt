@@ -1,5 +1,5 @@
 use Rattle.std.proofs.Common.{◌∙◌, sym, ap, is_some}
-use Rattle.shape_base.proofs.Maps.{remove_in}
+use Rattle.shape_base.proofs.Lemmas.{remove_in}
 use Rattle.shape_model.proofs.Maps.{delete_done}
 use Rattle.shape_model.proofs.folds.deleted.Goals as goal
 

@@ -1,6 +1,6 @@
 use Rattle.std.proofs.Common.{◌∙◌, sym, append-nil}
 use Rattle.shape_model.specs.Maps.{pairs_of}
-use Rattle.shape_base.proofs.Maps.{entries_in}
+use Rattle.shape_base.proofs.Lemmas.{entries_in}
 use Rattle.shape_model.proofs.folds.listed.Goals as goal
 
 pub returns : goal.returns

@@ -1,8 +1,8 @@
 use Rattle.std.proofs.Common.{◌∙◌, sym, ap, List, ℕ}
 use Rattle.std.specs.FinMap as fin
-use Rattle.shape_base.specs.declared.row.Cell.{Cell}
+use Rattle.shape_base.specs.declared.entry.Cell.{Cell}
 use Rattle.shape_base.specs.Maps.{map_in}
-use Rattle.shape_base.proofs.Maps.{insert_in}
+use Rattle.shape_base.proofs.Lemmas.{insert_in}
 use Rattle.shape_model.proofs.Maps.{update_done, update_none}
 use Rattle.shape_model.proofs.folds.updated.Goals as goal
 

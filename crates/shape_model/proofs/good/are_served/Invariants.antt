@@ -1,6 +1,6 @@
 use Rattle.std.proofs.Common.{◌≡◌, drop}
 use Rattle.std.specs.List.{list_all, slice_get}
-use Rattle.shape_base.specs.declared.row.Change.{Change}
+use Rattle.shape_base.specs.declared.change.Change.{Change}
 use Rattle.shape_model.specs.Order.{is_served}
 use Rattle.shape_model.proofs.good.are_served.Given as goal
 

@@ -1,5 +1,5 @@
 use Rattle.std.proofs.Common.{◌∙◌, sym, ap, List}
-use Rattle.shape_base.specs.declared.row.TableDef.{TableDef}
+use Rattle.shape_base.specs.declared.definition.TableDef.{TableDef}
 use Rattle.shape_base.specs.Tables.{Table}
 use Rattle.shape_model.proofs.Breaking.{has_at, bad_base, table_to}
 use Rattle.shape_model.proofs.good.good_table.Goals as goal

@@ -2,11 +2,10 @@ use Rattle.std.proofs.Common.{◌∙◌, sym, ap, List, ℕ}
 use Rattle.std.specs.Prelude.{is_some}
 use Rattle.std.specs.BTreeMap as tree
 use Rattle.std.specs.FinMap as fin
-use Rattle.shape_base.specs.declared.row.Cell.{Cell}
+use Rattle.shape_base.specs.declared.entry.Cell.{Cell}
 use Rattle.shape_base.specs.Shape.{Map}
 use Rattle.shape_base.specs.Maps.{map_in}
-use Rattle.shape_base.proofs.MapLaws.{text_cmp}
-use Rattle.shape_base.proofs.Maps.{insert_in, get_in}
+use Rattle.shape_base.proofs.Lemmas.{text_cmp, insert_in, get_in}
 use Rattle.shape_replay.proofs.Folds.{insert_done, insert_none, absent_from, reinserted}
 use Rattle.shape_replay.proofs.client.insert.Goals as goal
 

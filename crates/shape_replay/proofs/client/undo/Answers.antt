@@ -1,5 +1,5 @@
 use Rattle.std.proofs.Common.{arith}
-use Rattle.shape_base.proofs.Maps.{remove_in}
+use Rattle.shape_base.proofs.Lemmas.{remove_in}
 use Rattle.shape_replay.proofs.Folds.{undo_turn}
 use Rattle.shape_replay.proofs.client.undo.Goals as goal
 

@@ -3,7 +3,7 @@ use Rattle.std.specs.List.{flat_map}
 use Rattle.std.specs.BTreeMap.{IsOrdered}
 use Rattle.std.proofs.lemmas.Result.{err_from_is_err_and}
 use Rattle.shape_base.specs.Shape.{Keyed}
-use Rattle.shape_base.proofs.MapLaws.{text_cmp}
+use Rattle.shape_base.proofs.Lemmas.{text_cmp}
 use Rattle.shape_replay.specs.Text.{row_line, block_line}
 use Rattle.shape_replay.proofs.Writing.{Owes, adds_nothing}
 use Rattle.shape_replay.proofs.Blocks.{block_text, gathered, stops_front, flushed}

@@ -1,10 +1,10 @@
 use Rattle.std.proofs.Common.{◌≡◌, true, List, [], ◌∷◌, ◌++◌, length, sym, ap, subst, ◌∙◌, append_assoc, arith}
-use Rattle.shape_base.specs.declared.row.Entry.{Entry}
-use Rattle.shape_base.specs.declared.row.Offset.{Offset}
-use Rattle.shape_base.specs.declared.row.Offset.TheVariants.{At}
+use Rattle.std.proofs.lemmas.Bool.{and_parts}
+use Rattle.shape_base.specs.declared.entry.Entry.{Entry}
+use Rattle.shape_base.specs.declared.offset.Offset.{Offset}
+use Rattle.shape_base.specs.declared.offset.Offset.TheVariants.{At}
 use Rattle.shape_base.specs.Offsets.{is_before, rises_after}
 use Rattle.shape_base.specs.Log.{end_of}
-use Rattle.shape_base.proofs.Tests.{both_true}
 use Rattle.shape_replay.proofs.Joins.{last_more}
 use Rattle.shape_replay.proofs.stages.join.Goals as goal
 
@@ -17,7 +17,7 @@ loop-entry-preserved c =
     let rises : rises_after (end_of log) (e ∷ rest) ≡ true = subst (λ (es : List Entry). rises_after (end_of log) es ≡ true) steps c.loop-entry.invariant.rises in
     record {
       joined = ap (λ (es : List Entry). es ++ rest) c.append.ensures.entries ∙ append_assoc log (e ∷ []) rest ∙ ap (λ (es : List Entry). log ++ es) (sym steps) ∙ c.loop-entry.invariant.joined;
-      rises = subst (λ (o : Offset). rises_after o rest ≡ true) (sym (ap end_of c.append.ensures.entries ∙ last_more (At 0 0) log e)) (both_true (is_before (end_of log) e.offset) _ rises).1;
+      rises = subst (λ (o : Offset). rises_after o rest ≡ true) (sym (ap end_of c.append.ensures.entries ∙ last_more (At 0 0) log e)) (and_parts (is_before (end_of log) e.offset) _ rises).1;
       room = omega (arith, ap (length {A = Entry}) steps, c.loop-entry.invariant.room, c.append.ensures.spare);
       bytes = omega (arith, c.append.ensures.bytes, c.loop-entry.invariant.bytes);
     }

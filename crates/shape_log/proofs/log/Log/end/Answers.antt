@@ -1,5 +1,5 @@
 use Rattle.std.proofs.Common.{sym, ap, ◌∙◌}
-use Rattle.shape_base.specs.declared.row.Offset.TheVariants.{At}
+use Rattle.shape_base.specs.declared.offset.Offset.TheVariants.{At}
 use Rattle.shape_base.specs.Log.{end_of}
 use Rattle.shape_log.specs.Logged.{Logged}
 use Rattle.shape_log.proofs.Bounds.{last_is}

@@ -1,8 +1,8 @@
 use Rattle.std.proofs.Common.{sym, ap, subst, ◌∙◌, List, rules}
 use Rattle.std.specs.List.Sorted.{IsPartitionedBy}
 use Rattle.std.proofs.lemmas.List.Sorted.{IsPartitionPoint-from_clause}
-use Rattle.shape_base.specs.declared.row.Entry.{Entry}
-use Rattle.shape_base.specs.declared.row.Offset.TheVariants.{At}
+use Rattle.shape_base.specs.declared.entry.Entry.{Entry}
+use Rattle.shape_base.specs.declared.offset.Offset.TheVariants.{At}
 use Rattle.shape_log.specs.Logged.{Logged, IsBound}
 use Rattle.shape_log.proofs.Bounds.{is_upto, partitioned, bound_at}
 use Rattle.shape_log.proofs.log.Log.page_bounds.Goals as goal
