@@ -16,6 +16,3 @@ pub use fields::sqlstate_at;
 pub use frame::{Frame, FrameError, LONGEST};
 pub use frames::Frames;
 pub use status::status_update;
-
-#[cfg(test)]
-mod cases;

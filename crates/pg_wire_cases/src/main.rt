@@ -10,12 +10,11 @@
 //! Bytes are written as ASCII, and others with a backslash and two hexadecimal digits.
 #![tactic(auto)]
 
-mod notation;
 mod streams;
 
-use notation::{bytes_of, put_bytes};
+use cases::{Answers, answer_lines, bytes_of, cut, put_bytes};
 use pg_wire::status_update;
-use shape_base::memory::OutOfMemory;
+use shape_base::OutOfMemory;
 use std::alloc::Global;
 use std::io;
 use streams::{cuts_line, frames_line, single_line};
@@ -32,28 +31,26 @@ fn status_line(alloc: Global, position: &str, time: &str) -> Result<String, OutO
     Ok(out)
 }
 
-/// What is printed for a line.
-fn answer(alloc: Global, line: &str) -> Result<String, OutOfMemory> {
-    let (word, rest) = line.split_once(' ').unwrap_or((line, ""));
-    match word {
-        "frames" => frames_line(alloc, rest),
-        "cuts" => cuts_line(alloc, bytes_of(alloc, rest.as_bytes())?.as_slice()),
-        "single" => single_line(alloc, bytes_of(alloc, rest.as_bytes())?.as_slice()),
-        "status" => {
-            let (position, time) = rest.split_once(' ').unwrap_or((rest, ""));
-            status_line(alloc, position, time)
-        }
-        _ => Ok(format!(in alloc; "no such line")?),
+#[derive(Drop)]
+struct WireCases;
+
+impl Answers for WireCases {
+    fn answer(&mut self, alloc: Global, line: &str) -> Result<Option<String>, OutOfMemory> {
+        let (word, rest) = cut(line, ' ');
+        let answer = match word {
+            "frames" => frames_line(alloc, rest)?,
+            "cuts" => cuts_line(alloc, bytes_of(alloc, rest)?.as_slice())?,
+            "single" => single_line(alloc, bytes_of(alloc, rest)?.as_slice())?,
+            "status" => {
+                let (position, time) = cut(rest, ' ');
+                status_line(alloc, position, time)?
+            }
+            _ => format!(in alloc; "no such line")?,
+        };
+        Ok(Some(answer))
     }
 }
 
 fn main(rt: HostRuntime) -> io::Result<()> {
-    for line in rt.lines(rt.alloc()) {
-        let line = line?;
-        match answer(rt.alloc(), line.as_str()) {
-            Ok(text) => println!(rt; "{}", text)?,
-            Err(_) => println!(rt; "out of memory")?,
-        }
-    }
-    Ok(())
+    answer_lines(&rt, &mut WireCases)
 }

@@ -1,13 +1,13 @@
 //! What comes of bytes, in whatever pieces.
 ghost use Rattle.std.specs.Prelude.{◌≡◌, ◌≤◌, length};
 
-use crate::notation::{bytes_of, put_bytes};
+use cases::{bytes_of, put_bytes};
 use pg_wire::{Frame, FrameError, Frames};
-use shape_base::memory::OutOfMemory;
-use std::alloc::{AllocError, Global};
+use shape_base::OutOfMemory;
+use std::alloc::Global;
 
 /// Adds a frame to a line.
-fn put_frame(out: &mut String, frame: &Frame) -> Result<(), AllocError> {
+fn put_frame(out: &mut String, frame: &Frame) -> Result<(), OutOfMemory> {
     match frame {
         Frame::Wal { start, end, message } => {
             write!(out, "wal {start} {end} ")?;
@@ -15,29 +15,34 @@ fn put_frame(out: &mut String, frame: &Frame) -> Result<(), AllocError> {
         }
         Frame::Keepalive { end, wanted } => {
             write!(out, "keepalive {end}")?;
-            out.push_str(if *wanted { " wanted" } else { "" })
+            out.push_str(if *wanted { " wanted" } else { "" })?;
+            Ok(())
         }
-        Frame::Done => out.push_str("done"),
+        Frame::Done => {
+            out.push_str("done")?;
+            Ok(())
+        }
     }
 }
 
 /// Adds a refusal to a line.
-fn put_refusal(out: &mut String, error: FrameError) -> Result<(), AllocError> {
+fn put_refusal(out: &mut String, error: FrameError) -> Result<(), OutOfMemory> {
     match error {
-        FrameError::OutOfMemory => out.push_str("out_of_memory"),
-        FrameError::BadFrame { place } => write!(out, "bad_frame {place}"),
+        FrameError::OutOfMemory => out.push_str("out_of_memory")?,
+        FrameError::BadFrame { place } => write!(out, "bad_frame {place}")?,
         FrameError::FrameTooLong { place, bytes, limit } => {
-            write!(out, "frame_too_long {place} {bytes} {limit}")
+            write!(out, "frame_too_long {place} {bytes} {limit}")?;
         }
         FrameError::ServerError { place, sqlstate } => {
             write!(out, "server_error {place} ")?;
-            put_bytes(out, sqlstate.as_bytes())
+            put_bytes(out, sqlstate.as_bytes())?;
         }
     }
+    Ok(())
 }
 
 /// Adds all that comes of what was fed.
-fn put_all(out: &mut String, frames: &mut Frames) -> Result<(), AllocError> {
+fn put_all(out: &mut String, frames: &mut Frames) -> Result<(), OutOfMemory> {
     for _ in 0..u32::MAX {
         let rest = frames.rest();
         write!(out, "rest {rest}")?;
@@ -71,7 +76,7 @@ pub(crate) fn frames_line(alloc: Global, text: &str) -> Result<String, OutOfMemo
         if place > 0 {
             out.push_str(" | ")?;
         }
-        frames.feed(bytes_of(alloc, piece.as_bytes())?.as_slice())?;
+        frames.feed(bytes_of(alloc, piece)?.as_slice())?;
         put_all(&mut out, &mut frames)?;
     }
     Ok(out)
@@ -92,7 +97,7 @@ fn letter(frames: &mut Frames) -> char {
 }
 
 /// Adds all that comes, as letters, up to none or a refusal.
-fn put_letters(out: &mut String, frames: &mut Frames) -> Result<(), AllocError> {
+fn put_letters(out: &mut String, frames: &mut Frames) -> Result<(), OutOfMemory> {
     for _ in 0..u32::MAX {
         let next = letter(frames);
         out.push(next)?;
