@@ -95,3 +95,9 @@ reply_in w place kind payload =
 pub no_link_fault : (w : Wanted) (place kind : ℕ) (payload : List ℕ) (error : WireError) → (error ≡ OutOfMemory) ⊎ (reply w place kind payload ≡ Err error) → error ≡ LinkFault → ⊥
 no_link_fault w place kind payload error (inl h) e = let k = sym h ∙ e in cc
 no_link_fault w place kind payload error (inr h) e = subst Inside h (reply_in w place kind payload) e
+
+abbrev pub answer_of : WireError → Result (Unit {0}) WireError
+answer_of e = Err e
+
+pub no_link_answer : (w : Wanted) (place kind : ℕ) (payload : List ℕ) (error : WireError) → (error ≡ OutOfMemory) ⊎ (reply w place kind payload ≡ Err error) → answer_of error ≡ answer_of LinkFault → ⊥
+no_link_answer w place kind payload error h e = let k : error ≡ LinkFault = cc in no_link_fault w place kind payload error h k

@@ -9,3 +9,4 @@ pub mod Talking
 pub mod Causes
 pub mod Exits
 pub mod Rows
+pub mod Steps

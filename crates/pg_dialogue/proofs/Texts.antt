@@ -3,9 +3,9 @@ use Rattle.std.proofs.Common.{◌≡◌, ◌⊎◌, inl, inr, ℕ, Bool, true, f
 use Rattle.std.specs.List.{list_all}
 use Rattle.std.specs.Str.{IsUtf8, is_utf8}
 use Rattle.std.proofs.lemmas.Str.{IsUtf8-from_is_utf8, is_utf8-from_IsUtf8}
-use Rattle.shape_base.specs.declared.row.Column.{Column}
-use Rattle.shape_base.specs.declared.row.Value as values
-use Rattle.shape_base.specs.declared.row.Value.TheVariants as value
+use Rattle.shape_base.specs.declared.definition.Column.{Column}
+use Rattle.shape_base.specs.declared.value.Value as values
+use Rattle.shape_base.specs.declared.value.Value.TheVariants as value
 use Rattle.pg_dialogue.specs.declared.wire_error.WireError.{WireError}
 use Rattle.pg_dialogue.specs.declared.wire_error.WireError.TheVariants.{ErrorResponse, BadReply, NotUtf8}
 use Rattle.pg_dialogue.specs.declared.contents.Field.{Field}

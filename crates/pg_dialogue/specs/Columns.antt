@@ -1,9 +1,9 @@
 -- Columns and rows whose texts have to be UTF-8, one after the other.
 use Rattle.std.specs.Prelude.{◌≡◌, ℕ, List, [], ◌∷◌, if◌then◌else◌, Result, Ok, Err}
 use Rattle.std.specs.Str.{is_utf8}
-use Rattle.shape_base.specs.declared.row.Column.{Column}
-use Rattle.shape_base.specs.declared.row.Value as values
-use Rattle.shape_base.specs.declared.row.Value.TheVariants as value
+use Rattle.shape_base.specs.declared.definition.Column.{Column}
+use Rattle.shape_base.specs.declared.value.Value as values
+use Rattle.shape_base.specs.declared.value.Value.TheVariants as value
 use Rattle.pg_dialogue.specs.declared.wire_error.WireError.{WireError}
 use Rattle.pg_dialogue.specs.declared.wire_error.WireError.TheVariants.{NotUtf8}
 use Rattle.pg_dialogue.specs.declared.contents.Field.{Field}

@@ -1,6 +1,6 @@
 -- The dialogues: what the client writes, by which messages the server answers, and what the client reads in them.
 use Rattle.std.specs.Prelude.{ℕ, List, [], ◌∷◌, Option, None, Some, Ok, Err}
-use Rattle.shape_base.specs.declared.row.Value as values
+use Rattle.shape_base.specs.declared.value.Value as values
 use Rattle.shape_base.specs.declared.served.Served.{Served}
 use Rattle.pg_dialogue.specs.declared.login.Login.{Login}
 use Rattle.pg_dialogue.specs.declared.wanted.Wanted.TheVariants.{Authentication, Started, Completed, Ready, SnapshotColumn, SnapshotText, TableColumns, TableRow, CopyBoth}

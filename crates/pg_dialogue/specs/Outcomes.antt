@@ -1,6 +1,6 @@
 -- What the calls of a dialogue answer, by what the client makes of what the server says.
 use Rattle.std.specs.Prelude.{◌≡◌, ℕ, List, [], Option, None, Some, Result, Ok, Err}
-use Rattle.shape_base.specs.declared.row.Value as values
+use Rattle.shape_base.specs.declared.value.Value as values
 use Rattle.pg_dialogue.specs.declared.login.SnapHead.{SnapHead}
 use Rattle.pg_dialogue.specs.declared.wire_error.WireError.{WireError}
 use Rattle.pg_dialogue.specs.declared.wanted.Told.{Told}
@@ -12,21 +12,21 @@ use Rattle.pg_dialogue.specs.Links.{to_come, Takes}
 
 -- a dialogue that was given so many bytes, and what the snapshot says before its rows; no byte more was taken
 abbrev pub Begins : Result (ℕ × SnapHead) WireError → Heard → List ℕ → Type 0
-Begins (Ok x) heard left = heard ≡ Met (record { head = x.1; row = None }) x.0 (to_come x.0 left)
+Begins (Ok x) heard left = (told : Told) × (told.head ≡ x.1) × (heard ≡ Met told x.0 (to_come x.0 left))
 Begins (Err error) heard left = Ends error heard
 
 -- the next message is this row
 pub record IsRow (said : Said) (row : List values.Value) (place : ℕ) (rest : Said) : Type 0 where
   pub told : Told
-  pub met : met said TableRow nothing_told ≡ Met told place rest
-  pub row : told.row ≡ Some row
+  pub heard : met said TableRow nothing_told ≡ Met told place rest
+  pub is : told.row ≡ Some row
 
 -- the next message is the end of the rows, and then the server is ready for the next query
 pub record IsEnd (said : Said) (place : ℕ) (rest : Said) : Type 0 where
   pub told : Told
   pub behind : ℕ
   pub others : Said
-  pub met : met said TableRow nothing_told ≡ Met told behind others
+  pub heard : met said TableRow nothing_told ≡ Met told behind others
   pub none : told.row ≡ None
   pub last : Told
   pub ready : met others Ready told ≡ Met last place rest
@@ -55,5 +55,5 @@ Finishes (Err error) heard given left place given' left' = Ends error heard
 
 -- the description of a table
 abbrev pub Describes : Result SnapHead WireError → Heard → List ℕ → List ℕ → List ℕ → List ℕ → Type 0
-Describes (Ok head) heard given left given' left' = IsOver heard (record { head = head; row = None }) given left 0 given' left'
+Describes (Ok head) heard given left given' left' = (told : Told) × (told.head ≡ head) × IsOver heard told given left 0 given' left'
 Describes (Err error) heard given left given' left' = Ends error heard

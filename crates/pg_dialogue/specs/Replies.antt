@@ -5,9 +5,9 @@ use Rattle.std.specs.Str.{is_utf8}
 use Rattle.byte_format.specs.Format.{Read, string, int32}
 use Rattle.byte_format.specs.Whole.{whole}
 use Rattle.pg_wire.specs.ErrorFields.{sqlstate_of}
-use Rattle.shape_base.specs.declared.row.Column.{Column}
-use Rattle.shape_base.specs.declared.row.Value as values
-use Rattle.shape_base.specs.declared.row.Value.TheVariants as value
+use Rattle.shape_base.specs.declared.definition.Column.{Column}
+use Rattle.shape_base.specs.declared.value.Value as values
+use Rattle.shape_base.specs.declared.value.Value.TheVariants as value
 use Rattle.pg_dialogue.specs.declared.wire_error.WireError.{WireError}
 use Rattle.pg_dialogue.specs.declared.wire_error.WireError.TheVariants.{ErrorResponse, BadReply, AuthWanted, NotUtf8}
 use Rattle.pg_dialogue.specs.declared.contents.Field.{Field}

@@ -7,7 +7,7 @@ ghost use Rattle.pg_dialogue.specs.Contents.{column_type, type_of, field, value,
 use byte_format::{
     Part, ReadError, list_of, put_chunk, put_string, put_u16, put_u32, string_of, u16_at, u32_at,
 };
-use shape_base::row::Octets;
+use shape_base::Octets;
 use std::alloc::{AllocError, Global};
 
 /// A field of a RowDescription.

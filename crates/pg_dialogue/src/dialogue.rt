@@ -13,9 +13,7 @@ use crate::queries;
 use crate::talk::Exchange;
 use crate::wanted::{Told, Wanted};
 use crate::wire_error::WireError;
-use shape_base::outside::{Sink, Source};
-use shape_base::row::Row;
-use shape_base::served::Served;
+use shape_base::{Row, Served, Sink, Source};
 use std::alloc::Global;
 use std::marker::Model;
 

@@ -7,7 +7,7 @@ ghost use Rattle.pg_dialogue.specs.Messages.{Says, behind};
 ghost use Rattle.pg_dialogue.specs.Links.{to_come, since, Takes, Stops, StopsSaid};
 
 use crate::wire_error::WireError;
-use shape_base::outside::Source;
+use shape_base::Source;
 use std::alloc::Global;
 
 /// The most bytes that the link may give in one dialogue.

@@ -1,6 +1,5 @@
 //! Who asks, and what a snapshot begins with.
-use shape_base::row::Columns;
-use shape_base::text::Text;
+use shape_base::{Columns, Text};
 
 /// Who asks the database for what.
 #[derive(Drop)]

@@ -5,9 +5,7 @@ ghost use Rattle.pg_dialogue.specs.Queries.{pair, user_pairs, startup_message, s
 
 use crate::login::Login;
 use byte_format::{put_string, put_u32};
-use shape_base::memory::OutOfMemory;
-use shape_base::quote::push_quoted;
-use shape_base::served::Served;
+use shape_base::{OutOfMemory, Served, push_quoted};
 use std::alloc::{AllocError, Global};
 
 /// Version 3.0 of the protocol.

@@ -12,8 +12,7 @@ use crate::wanted::{News, Wanted};
 use crate::wire_error::WireError;
 use byte_format::{ReadError, u32_at};
 use pg_wire::sqlstate_at;
-use shape_base::row::{Column, Columns, Octets, Row, Value};
-use shape_base::text::{Text, TextError};
+use shape_base::{Column, Columns, Octets, Row, Text, TextError, Value};
 use std::alloc::Global;
 
 /// What a message tells, none where it is passed over; or why it is refused.

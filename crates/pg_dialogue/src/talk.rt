@@ -11,9 +11,7 @@ use crate::login::SnapHead;
 use crate::replies::reply;
 use crate::wanted::{News, Told, Wanted};
 use crate::wire_error::WireError;
-use shape_base::outside::{Sink, Source};
-use shape_base::row::Columns;
-use shape_base::text::Text;
+use shape_base::{Columns, Sink, Source, Text};
 use std::alloc::Global;
 
 /// What the client writes, and the messages by which the server answers.

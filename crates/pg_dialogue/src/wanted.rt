@@ -1,7 +1,6 @@
 //! What the client waits for, and what a message tells.
 use crate::login::SnapHead;
-use shape_base::row::{Columns, Row};
-use shape_base::text::Text;
+use shape_base::{Columns, Row, Text};
 
 /// The message that the client waits for.
 #[derive(Clone, Copy, PartialEq, Eq)]

@@ -2,8 +2,7 @@
 ghost use Rattle.std.specs.Prelude.{◌≡◌};
 ghost use Rattle.pg_dialogue.specs.declared.wire_error.WireError.TheVariants.{OutOfMemory};
 
-use shape_base::memory;
-use shape_base::text::Text;
+use shape_base::Text;
 use std::alloc::{AllocError, AllocFailed};
 
 /// Why a dialogue with the database ends early. Places count the bytes that the link gave in this dialogue, from 0.
@@ -61,10 +60,10 @@ impl<T: Drop> From<AllocFailed<T>> for WireError {
     }
 }
 
-impl From<memory::OutOfMemory> for WireError {
+impl From<shape_base::OutOfMemory> for WireError {
     ghost from_gives = { λ _ e. e ≡ OutOfMemory };
 
-    fn from(_error: memory::OutOfMemory) -> WireError {
+    fn from(_error: shape_base::OutOfMemory) -> WireError {
         WireError::OutOfMemory
     }
 }

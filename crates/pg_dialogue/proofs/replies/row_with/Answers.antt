@@ -1,5 +1,5 @@
 use Rattle.std.proofs.Common.{ap, ◌∙◌, List, Result, Ok}
-use Rattle.shape_base.specs.declared.row.Value as values
+use Rattle.shape_base.specs.declared.value.Value as values
 use Rattle.pg_dialogue.specs.declared.wire_error.WireError.{WireError}
 use Rattle.pg_dialogue.specs.Columns.{next, values_of}
 use Rattle.pg_dialogue.specs.Replies.{row_with}

@@ -7,7 +7,7 @@ use Rattle.pg_dialogue.specs.Links.{to_come}
 use Rattle.pg_dialogue.specs.Replies.{reply}
 use Rattle.pg_dialogue.proofs.Filling.{takes_then}
 use Rattle.pg_dialogue.proofs.Hearing.{met_passed, met_news, refuses, stops, ends_as}
-use Rattle.pg_dialogue.proofs.Causes.{no_link_fault}
+use Rattle.pg_dialogue.proofs.Causes.{no_link_answer}
 use Rattle.pg_dialogue.proofs.inbox.Inbox.meet.Goals as goal
 
 pub returns-in_err-kind-clause-read : goal.returns-in_err-kind-clause-read
@@ -41,4 +41,4 @@ returns-in-Err-clause-read g c t =
     (refuses _ _ c.args.wanted c.args.told.now c.in-Err.error c.messages.self.place c.in_ok-kind.kind c.message.new.self.payload.items (c.in_ok-kind.ensures.ok t) (rw c.as_slice.ensures.value at c.in-Err.ensures))
 
 pub returns-in-Err-clause-fault : goal.returns-in-Err-clause-fault
-returns-in-Err-clause-fault g c h = absurd (no_link_fault c.args.wanted c.messages.self.place c.in_ok-kind.kind c.as_slice.result.now c.in-Err.error c.in-Err.ensures h)
+returns-in-Err-clause-fault g c h = absurd (no_link_answer c.args.wanted c.messages.self.place c.in_ok-kind.kind c.as_slice.result.now c.in-Err.error c.in-Err.ensures h)
