@@ -7,8 +7,7 @@ use Rattle.byte_format.proofs.Codec.{chosen}
 use Rattle.pg_wire.specs.declared.frame.Frame.{Frame}
 use Rattle.pg_wire.specs.declared.frame.FrameError.{FrameError}
 use Rattle.pg_wire.specs.declared.frame.FrameError.TheVariants.{BadFrame, FrameTooLong}
-use Rattle.pg_wire.specs.declared.frame.TheConstants.{LONGEST}
-use Rattle.pg_wire.specs.FrameList.{is_type, may_be_data, may_be, Whole, whole_if, payload_at, length_at, whole_at, content, Front, Unfinished, Framed, Refused, with_size, front_of, front}
+use Rattle.pg_wire.specs.FrameList.{is_type, may_be_data, may_be, Whole, whole_if, payload_at, length_at, whole_at, content, Beginning, Unfinished, Framed, Refused, with_size, beginning_of, beginning}
 
 -- ---- sizes
 
@@ -40,7 +39,7 @@ payload_size place kind len rest x e =
 length_size : (place kind len : ℕ) (rest : List ℕ) (x : ℕ × ℕ) → length_at place kind len rest ≡ found x → x.1 ≤ length rest
 unfolding length_at
 length_size place kind len rest x e =
-    elim (chosen (ltb LONGEST len) (Err (FrameTooLong place len LONGEST)) (cond (ltb len 4) (Err (BadFrame place)) (payload_at place kind (len - 4) rest)) (found x) e) [
+    elim (chosen (ltb 67109888 len) (Err (FrameTooLong place len 67109888)) (cond (ltb len 4) (Err (BadFrame place)) (payload_at place kind (len - 4) rest)) (found x) e) [
       | inl h ↦ absurd (let w = h.1 in cc)
       | inr h ↦ elim (chosen (ltb len 4) (Err (BadFrame place)) (payload_at place kind (len - 4) rest) (found x) h.1) [
         | inl k ↦ absurd (let w = k.1 in cc)
@@ -116,7 +115,7 @@ guarded false e now later s = s
 length_stays : (place kind len : ℕ) (rest more : List ℕ) → Stays (length_at place kind len rest) (length_at place kind len (rest ++ more))
 unfolding length_at
 length_stays place kind len rest more =
-    guarded (ltb LONGEST len) (FrameTooLong place len LONGEST) (cond (ltb len 4) (Err (BadFrame place)) (payload_at place kind (len - 4) rest)) (cond (ltb len 4) (Err (BadFrame place)) (payload_at place kind (len - 4) (rest ++ more)))
+    guarded (ltb 67109888 len) (FrameTooLong place len 67109888) (cond (ltb len 4) (Err (BadFrame place)) (payload_at place kind (len - 4) rest)) (cond (ltb len 4) (Err (BadFrame place)) (payload_at place kind (len - 4) (rest ++ more)))
     (guarded (ltb len 4) (BadFrame place) (payload_at place kind (len - 4) rest) (payload_at place kind (len - 4) (rest ++ more)) (payload_stays place kind (len - 4) rest more))
 
 typed : (b : Bool) (e : FrameError) (now later : Whole) → Stays now later → Stays (cond b now (Err e)) (cond b later (Err e))
@@ -139,7 +138,7 @@ whole_stays place (kind ∷ bytes) more =
 
 -- ---- what stands first
 
-front_same : (place : ℕ) (bytes more : List ℕ) (r : Whole) → whole_at place bytes ≡ r → (front_of place bytes r ≡ Unfinished) ⊎ (front_of place (bytes ++ more) r ≡ front_of place bytes r)
+front_same : (place : ℕ) (bytes more : List ℕ) (r : Whole) → whole_at place bytes ≡ r → (beginning_of place bytes r ≡ Unfinished) ⊎ (beginning_of place (bytes ++ more) r ≡ beginning_of place bytes r)
 front_same place bytes more (Ok None) e = inl refl
 front_same place bytes more (Err error) e = inr refl
 front_same place bytes more (Ok (Some x)) e =
@@ -149,14 +148,14 @@ front_same place bytes more (Ok (Some x)) e =
     inr (ap (λ (payload : List ℕ). with_size (5 + x.1) (content place x.0 payload)) (ap (take x.1) one ∙ two))
 
 -- what stands first is not whole yet, or it stays, whatever follows
-pub front_stays : (place : ℕ) (bytes more : List ℕ) → (front place bytes ≡ Unfinished) ⊎ (front place (bytes ++ more) ≡ front place bytes)
-unfolding front
+pub front_stays : (place : ℕ) (bytes more : List ℕ) → (beginning place bytes ≡ Unfinished) ⊎ (beginning place (bytes ++ more) ≡ beginning place bytes)
+unfolding beginning
 front_stays place bytes more =
     elim (whole_stays place bytes more) [
-      | inl e ↦ inl (ap (front_of place bytes) e)
+      | inl e ↦ inl (ap (beginning_of place bytes) e)
       | inr e ↦ elim (front_same place bytes more (whole_at place bytes) refl) [
         | inl f ↦ inl f
-        | inr f ↦ inr (ap (front_of place (bytes ++ more)) e ∙ f)
+        | inr f ↦ inr (ap (beginning_of place (bytes ++ more)) e ∙ f)
       ]
     ]
 
@@ -166,10 +165,10 @@ pub record IsWithin (size : ℕ) (bytes : List ℕ) : Type 0 where
   pub inside : size ≤ length bytes
 
 size_of : (n : ℕ) (r : Result (Option Frame) FrameError) (given : Option Frame) (size : ℕ) → with_size n r ≡ Framed given size → n ≡ size
-size_of n (Ok o) given size e = ap (λ (f : Front). elim f [ Unfinished ↦ 0 | Framed g s ↦ s | Refused r ↦ 0 ]) e
+size_of n (Ok o) given size e = ap (λ (f : Beginning). elim f [ Unfinished ↦ 0 | Framed g s ↦ s | Refused r ↦ 0 ]) e
 size_of n (Err error) given size e = absurd cc
 
-front_size_of : (place : ℕ) (bytes : List ℕ) (r : Whole) (given : Option Frame) (size : ℕ) → whole_at place bytes ≡ r → front_of place bytes r ≡ Framed given size → IsWithin size bytes
+front_size_of : (place : ℕ) (bytes : List ℕ) (r : Whole) (given : Option Frame) (size : ℕ) → whole_at place bytes ≡ r → beginning_of place bytes r ≡ Framed given size → IsWithin size bytes
 front_size_of place bytes (Ok None) given size e f = absurd cc
 front_size_of place bytes (Err error) given size e f = absurd cc
 front_size_of place bytes (Ok (Some x)) given size e f =
@@ -177,6 +176,6 @@ front_size_of place bytes (Ok (Some x)) given size e f =
     let same = size_of (5 + x.1) (content place x.0 (take x.1 (drop 5 bytes))) given size f in
     record { some = omega (arith, same); inside = omega (arith, same, le) }
 
-pub front_size : (place : ℕ) (bytes : List ℕ) (given : Option Frame) (size : ℕ) → front place bytes ≡ Framed given size → IsWithin size bytes
-unfolding front
+pub front_size : (place : ℕ) (bytes : List ℕ) (given : Option Frame) (size : ℕ) → beginning place bytes ≡ Framed given size → IsWithin size bytes
+unfolding beginning
 front_size place bytes given size e = front_size_of place bytes (whole_at place bytes) given size refl e

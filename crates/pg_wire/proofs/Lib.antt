@@ -4,3 +4,4 @@ pub mod Refusals
 pub mod CuttingLaws
 pub mod Looking
 pub mod Reading
+pub mod Converse

@@ -6,7 +6,7 @@ use Rattle.pg_wire.specs.declared.frame.Frame.{Frame}
 use Rattle.pg_wire.specs.declared.frame.Frame.TheVariants as frames
 use Rattle.pg_wire.specs.declared.frame.FrameError.{FrameError}
 use Rattle.pg_wire.specs.declared.frame.FrameError.TheVariants as errors
-use Rattle.pg_wire.specs.FrameList.{Unfinished, Framed, Refused, front}
+use Rattle.pg_wire.specs.FrameList.{Unfinished, Framed, Refused, beginning}
 
 -- the frame, or none where it is passed over; the message of an XLogData is what stands behind its 25 bytes
 abbrev pub shown : List ℕ → Content → Option Frame
@@ -30,9 +30,9 @@ IsAnswer payload (Err e) answer = (e ≡ errors.OutOfMemory) ⊎ (answer ≡ Err
 
 -- what stands first: its content and its size, where it is whole
 abbrev pub IsFirst : ℕ → List ℕ → Option (Content × ℕ) → Type 0
-IsFirst place bytes None = front place bytes ≡ Unfinished
-IsFirst place bytes (Some x) = (5 ≤ x.1) × (x.1 ≤ length bytes) × (front place bytes ≡ Framed (shown (drop 5 (take x.1 bytes)) x.0) x.1)
+IsFirst place bytes None = beginning place bytes ≡ Unfinished
+IsFirst place bytes (Some x) = (5 ≤ x.1) × (x.1 ≤ length bytes) × (beginning place bytes ≡ Framed (shown (drop 5 (take x.1 bytes)) x.0) x.1)
 
 abbrev pub IsFirstAnswer : ℕ → List ℕ → Result (Option (Content × ℕ)) FrameError → Type 0
 IsFirstAnswer place bytes (Ok o) = IsFirst place bytes o
-IsFirstAnswer place bytes (Err e) = (e ≡ errors.OutOfMemory) ⊎ (front place bytes ≡ Refused e)
+IsFirstAnswer place bytes (Err e) = (e ≡ errors.OutOfMemory) ⊎ (beginning place bytes ≡ Refused e)

@@ -3,7 +3,7 @@ use Rattle.std.specs.Prelude.{◌≡◌, ℕ, ◌+◌, List, [], ◌∷◌, ◌+
 use Rattle.pg_wire.specs.declared.frame.Frame.{Frame}
 use Rattle.pg_wire.specs.declared.frame.FrameError.{FrameError}
 use Rattle.pg_wire.specs.Reached.{Reached}
-use Rattle.pg_wire.specs.FrameList.{Unfinished, Framed, front, Held, held_from}
+use Rattle.pg_wire.specs.FrameList.{Unfinished, Framed, beginning, Held, held_from}
 use Rattle.pg_wire.specs.declared.frames.Step.{Step}
 use Rattle.pg_wire.specs.declared.frames.Step.TheVariants as steps
 
@@ -35,12 +35,12 @@ given (Err error) = []
 -- the frame that stands first is taken
 pub record Moves (old : Reached) (first : Option Frame) (new : Reached) : Type 0 where
   pub size : ℕ
-  pub framed : front old.place old.rest ≡ Framed first size
+  pub framed : beginning old.place old.rest ≡ Framed first size
   pub place : new.place ≡ old.place + size
   pub rest : new.rest ≡ drop size old.rest
 
 -- what one step does
 abbrev pub Stepped : Reached → Step → Reached → Type 0
-Stepped old steps.Open new = (front old.place old.rest ≡ Unfinished) × (new ≡ old)
+Stepped old steps.Open new = (beginning old.place old.rest ≡ Unfinished) × (new ≡ old)
 Stepped old steps.Passed new = Moves old None new
 Stepped old (steps.Given frame) new = Moves old (Some frame) new

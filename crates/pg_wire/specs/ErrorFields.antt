@@ -46,6 +46,6 @@ found_by (Some code) kind text = Some code
 found_by None kind text = if kind == 67 then Some text else None
 
 -- a borrowed text, as its bytes
-abbrev pub seen : Option (Bor (List ℕ)) → Option (List ℕ)
-seen (Some text) = Some text.now
-seen None = None
+abbrev pub bytes_of : Option (Bor (List ℕ)) → Option (List ℕ)
+bytes_of (Some text) = Some text.now
+bytes_of None = None

@@ -8,7 +8,6 @@ use Rattle.pg_wire.specs.declared.frame.Frame.{Frame}
 use Rattle.pg_wire.specs.declared.frame.Frame.TheVariants.{Wal, Keepalive, Done}
 use Rattle.pg_wire.specs.declared.frame.FrameError.{FrameError}
 use Rattle.pg_wire.specs.declared.frame.FrameError.TheVariants.{BadFrame, FrameTooLong, ServerError}
-use Rattle.pg_wire.specs.declared.frame.TheConstants.{LONGEST}
 use Rattle.pg_wire.specs.ErrorFields.{sqlstate_of}
 
 -- ---- payloads
@@ -94,7 +93,7 @@ unfoldable pub payload_at : ℕ → ℕ → ℕ → List ℕ → Whole
 payload_at place kind len rest = if may_be kind len rest then whole_if (not (nat_lt (length rest) len)) kind len else Err (BadFrame place)
 
 unfoldable pub length_at : ℕ → ℕ → ℕ → List ℕ → Whole
-length_at place kind len rest = if nat_lt LONGEST len then Err (FrameTooLong place len LONGEST)
+length_at place kind len rest = if nat_lt 67109888 len then Err (FrameTooLong place len 67109888)
     else if nat_lt len 4 then Err (BadFrame place)
     else payload_at place kind (len - 4) rest
 
@@ -106,23 +105,23 @@ whole_at place (kind ∷ bytes) = if is_type kind then (if nat_lt (length bytes)
 -- ---- the list of frames
 
 -- What bytes begin with: no whole frame, and none that is refused; a whole frame of so many bytes, with what it gives; or a refusal.
-pub data Front : Type 0 where
-  Unfinished : Front
-  Framed : (given : Option Frame) → (size : ℕ) → Front
-  Refused : (error : FrameError) → Front
+pub data Beginning : Type 0 where
+  Unfinished : Beginning
+  Framed : (given : Option Frame) → (size : ℕ) → Beginning
+  Refused : (error : FrameError) → Beginning
 
-abbrev pub with_size : ℕ → Result (Option Frame) FrameError → Front
+abbrev pub with_size : ℕ → Result (Option Frame) FrameError → Beginning
 with_size size (Ok given) = Framed given size
 with_size size (Err error) = Refused error
 
-abbrev pub front_of : ℕ → List ℕ → Whole → Front
-front_of place bytes (Ok (Some x)) = with_size (5 + x.1) (content place x.0 (take x.1 (drop 5 bytes)))
-front_of place bytes (Ok None) = Unfinished
-front_of place bytes (Err error) = Refused error
+abbrev pub beginning_of : ℕ → List ℕ → Whole → Beginning
+beginning_of place bytes (Ok (Some x)) = with_size (5 + x.1) (content place x.0 (take x.1 (drop 5 bytes)))
+beginning_of place bytes (Ok None) = Unfinished
+beginning_of place bytes (Err error) = Refused error
 
 -- what stands at this place of the stream, where these bytes follow
-unfoldable pub front : ℕ → List ℕ → Front
-front place bytes = front_of place bytes (whole_at place bytes)
+unfoldable pub beginning : ℕ → List ℕ → Beginning
+beginning place bytes = beginning_of place bytes (whole_at place bytes)
 
 -- The frames that bytes hold, and how they end: with nothing or a frame that is not whole yet, or with a refusal.
 pub record Held : Type 0 where
@@ -136,7 +135,7 @@ abbrev pub one_more : Option Frame → Held → Held
 one_more None held = held
 one_more (Some frame) held = record held { frames = frame ∷ held.frames }
 
-abbrev pub held_of : (ℕ → List ℕ → Held) → ℕ → List ℕ → Front → Held
+abbrev pub held_of : (ℕ → List ℕ → Held) → ℕ → List ℕ → Beginning → Held
 held_of later place bytes Unfinished = ended None
 held_of later place bytes (Refused error) = ended (Some error)
 held_of later place bytes (Framed given size) = one_more given (later (place + size) (drop size bytes))
@@ -144,7 +143,7 @@ held_of later place bytes (Framed given size) = one_more given (later (place + s
 -- in at most n steps
 unfoldable pub held_within : ℕ → ℕ → List ℕ → Held
 held_within zero place bytes = ended None
-held_within (suc n) place bytes = held_of (held_within n) place bytes (front place bytes)
+held_within (suc n) place bytes = held_of (held_within n) place bytes (beginning place bytes)
 
 -- what bytes hold, the first of which stands at this place; each step takes a byte at least
 unfoldable pub held_from : ℕ → List ℕ → Held

@@ -2,7 +2,7 @@
 ghost use Rattle.std.specs.Prelude.{◌≡◌, ◌⊎◌, ℕ, ◌<◌, ◌≤◌, ◌+◌, List, [], ◌++◌, length, take, drop, Option, None, Some, Ok, Err, MatchResult, OnOk, OnErr, IfOk, IfErr, IsErrOf};
 ghost use Rattle.pg_wire.specs.declared.frame.Frame.{Frame};
 ghost use Rattle.pg_wire.specs.declared.frame.FrameError.{FrameError};
-ghost use Rattle.pg_wire.specs.FrameList.{front, frames_of, Unfinished, Refused};
+ghost use Rattle.pg_wire.specs.FrameList.{beginning, frames_of, Unfinished, Refused};
 ghost use Rattle.pg_wire.specs.Cutting.{Took, Stepped, given};
 
 use crate::content::Content;
@@ -92,7 +92,7 @@ impl Frames {
     fn step(&mut self) -> Result<Step, FrameError>
         ensures ok { IfOk result (λ s. Stepped self.old s self.new) }
         ensures kept { OnErr result (self.new ≡ self.old) }
-        ensures err { IfErr result (λ e. (e ≡ FrameError.OutOfMemory) ⊎ (front self.old.place self.old.rest ≡ Refused e)) }
+        ensures err { IfErr result (λ e. (e ≡ FrameError.OutOfMemory) ⊎ (beginning self.old.place self.old.rest ≡ Refused e)) }
     {
         let alloc = *self.bytes.allocator();
         let Some((content, size)) = first_of(alloc, self.place, self.bytes.as_slice())? else {
@@ -153,7 +153,7 @@ impl Frames {
         // However the bytes were cut: what is taken is the front of their list of frames.
         ensures took { (fed : List ℕ) (taken : List Frame) → Took fed taken self.old → Took fed (taken ++ given result) self.new }
         // `None`: no whole frame and nothing that is refused stands at the place reached, and the frames of all that was fed are those that were taken.
-        ensures none { IfOk result (λ o. o ≡ None → front self.new.place self.new.rest ≡ Unfinished) }
+        ensures none { IfOk result (λ o. o ≡ None → beginning self.new.place self.new.rest ≡ Unfinished) }
         ensures whole { result ≡ Ok None → (fed : List ℕ) (taken : List Frame) → Took fed taken self.old → frames_of fed ≡ record { frames = taken; refusal = None } }
         // A refusal is the one that ends the list, whatever is fed behind.
         ensures refused { IfErr result (λ e. (e ≡ FrameError.OutOfMemory) ⊎ ((fed more : List ℕ) (taken : List Frame) → Took fed taken self.old → frames_of (fed ++ more) ≡ record { frames = taken; refusal = Some e })) }

@@ -12,9 +12,7 @@ mod header;
 pub mod laws;
 mod status;
 
+pub use fields::sqlstate_at;
 pub use frame::{Frame, FrameError, LONGEST};
 pub use frames::Frames;
 pub use status::status_update;
-
-#[cfg(test)]
-mod cases;

@@ -1,0 +1,12 @@
+pub mod Texts
+pub mod Joined
+pub mod Filling
+pub mod Saying
+pub mod Messaging
+pub mod Hearing
+pub mod Lengths
+pub mod Talking
+pub mod Causes
+pub mod Exits
+pub mod Rows
+pub mod Steps

@@ -1,0 +1,11 @@
+pub mod Contents
+pub mod Messages
+pub mod Answers
+pub mod Replies
+pub mod Columns
+pub mod Dialogue
+pub mod Queries
+pub mod Dialogues
+pub mod Links
+pub mod Exchanges
+pub mod Outcomes

@@ -1,0 +1,3 @@
+pub mod VisText
+pub mod Buffer
+pub mod Answers
