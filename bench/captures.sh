@@ -6,13 +6,11 @@ set -u
 folder=$(realpath "$1") || exit 1
 cd "$(dirname "$0")/.." || exit 1
 [ -n "$(ls "$folder"/*.script 2>/dev/null)" ] || { echo "captures.sh: skipped, there are no scripts"; exit 0; }
-program=crates/decode_bench/out/decode_bench
-if [ ! -x "$program" ] || [ -n "$(find crates/*/src -name '*.rt' -newer "$program" | head -n 1)" ]; then
-    command -v rt >/dev/null || { echo "captures.sh: skipped, there is no rt"; exit 0; }
-    (cd crates/decode_bench && rt run -- again < stdin > /dev/null 2>&1) || { echo "captures.sh: decode_bench does not run"; exit 1; }
-fi
+name=captures.sh
+. examples/programs.sh
+built stream_bench frames 7
 status=0
 for script in "$folder"/*.script; do
-    echo "$(basename "$script"): $("$program" again < "$script")" || status=1
+    echo "$(basename "$script"): $(crates/stream_bench/out/stream_bench decode again < "$script")" || status=1
 done
 exit $status

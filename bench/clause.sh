@@ -4,8 +4,8 @@
 set -eu
 cd "$(dirname "$0")"
 . ./timing.sh
-cd ../crates/clause_lines
-[ -x out/clause_lines ] || rt run < /dev/null > /dev/null
+cd ../crates/where_parser_cases
+[ -x out/where_parser_cases ] || rt run < /dev/null > /dev/null
 
 # clause COUNT: a clause of that many members, on one line
 clause() {
@@ -14,7 +14,7 @@ clause() {
 
 # read_in FILE: the least seconds of reading and printing the clause of a file
 read_in() {
-    seconds 3 "$folder/$1" out/clause_lines || return 1
+    seconds 3 "$folder/$1" out/where_parser_cases || return 1
     head -c 9 "$answer" | grep -q '^"a" = 1' || { echo "not read: $(head -c 80 "$answer")" >&2; return 1; }
 }
 
@@ -28,8 +28,8 @@ awk -v a="$small" -v b="$large" 'BEGIN { printf "%.1f times the time for ten tim
 
 # Shows that a clause of 8,192 bytes over a row of 100 columns is evaluated at least 2,000 times a second. No member
 # holds, so each is evaluated. The yardstick is awk, with an equal test on as many equal rows.
-cd ../truth_table
-[ -x out/truth_table ] || rt run < /dev/null > /dev/null
+cd ../where_eval_cases
+[ -x out/where_eval_cases ] || rt run < /dev/null > /dev/null
 times=4000
 
 # columns: the columns c0 to c99, all integer
@@ -63,7 +63,7 @@ finding() {
     [ "$(cat "$answer")" = 0 ] || { echo "found: $(cat "$answer")" >&2; return 1; }
 }
 
-ours=$(finding "$folder/clause" out/truth_table)
+ours=$(finding "$folder/clause" out/where_eval_cases)
 theirs=$(finding "$folder/rows" awk -f "$folder/test.awk")
 echo "awk: $(awk -v n="$times" -v t="$theirs" 'BEGIN { printf "%d", n / t }') rows a second"
 awk -v n="$times" -v t="$ours" 'BEGIN { printf "truth: %d rows a second\n", n / t; exit (n / t < 2000) }'

@@ -1,5 +1,5 @@
 #!/usr/bin/env bash
-# How fast messages of pgoutput are read and put together into transactions: MB/s of decode_bench beside sha256sum on the same file, in the same run.
+# How fast messages of pgoutput are read and put together into transactions: MB/s of stream_bench beside sha256sum on the same file, in the same run.
 # A script of about 60 MB, made from a seed, has transactions of a few inserts, updates and deletes of a table with full replica identity; two more have one
 # transaction each, of 100,000 and of 1,000,000 small changes. Fails where reading is less than half as fast as sha256sum; where reading and assembling is less
 # than 0.3 as fast, on the first script or on the transaction of 1,000,000 changes; or where that takes more than twelve times the time of a tenth of it.
@@ -88,18 +88,18 @@ write_one(sys.argv[1] + '/small', 100_000)
 write_one(sys.argv[1] + '/large', 1_000_000)
 PYTHON
 
-[ -x crates/decode_bench/out/decode_bench ] || (cd crates/decode_bench && rt run -- again < stdin > /dev/null 2>&1) || { echo "decode.sh: decode_bench does not run"; exit 1; }
-program=crates/decode_bench/out/decode_bench
+[ -x crates/stream_bench/out/stream_bench ] || (cd crates/stream_bench && rt run -- frames 7 < stdin > /dev/null 2>&1) || { echo "decode.sh: stream_bench does not run"; exit 1; }
+program=crates/stream_bench/out/stream_bench
 
 # assembling RUNS FILE: the least seconds of the program that reads and assembles the file's messages
 assembling() {
-    seconds "$1" "$folder/$2" "$program" assemble || return 1
+    seconds "$1" "$folder/$2" "$program" decode assemble || return 1
     [ ! -e "$folder/$2.wanted" ] || cmp -s "$answer" "$folder/$2.wanted" || { echo "decode.sh: of $2 it answers $(cat "$answer")" >&2; return 1; }
 }
 
 status=0
 hashing=$(seconds 5 "$folder/script" sha256sum) || exit 1
-decoding=$(seconds 5 "$folder/script" "$program") || exit 1
+decoding=$(seconds 5 "$folder/script" "$program" decode) || exit 1
 whole=$(assembling 5 script) || exit 1
 cat "$answer"
 awk -v bytes="$(wc -c < "$folder/script")" -v decode="$decoding" -v whole="$whole" -v hash="$hashing" 'BEGIN {

@@ -1,5 +1,5 @@
 #!/usr/bin/env bash
-# How fast the frames of a replication connection are taken: MB/s of frames_bench beside sha256sum on the same file, in the same run.
+# How fast the frames of a replication connection are taken: MB/s of stream_bench beside sha256sum on the same file, in the same run.
 # The file has about 60 MB: what a real server sends of 40,000 changes (wire.py), again and again. With files NAME.wire (bytes that a server sent behind
 # CopyBothResponse), as frames.sh FILE.., those are taken in its place. Fails where pieces of 64 KiB are taken slower than sha256sum reads, or pieces of
 # 100 bytes at less than 0.3 of that; where one frame of 64 MB is taken at less than a third of sha256sum's speed; or where the counts are not those of
@@ -51,12 +51,12 @@ with open(sys.argv[1] + '/one.wanted', 'w') as out:
     out.write('frames 1 of 64000000 bytes, keepalives 0, rest 0\n')
 PYTHON
 
-[ -x crates/frames_bench/out/frames_bench ] || (cd crates/frames_bench && rt run -- 7 < stdin > /dev/null 2>&1) || { echo "frames.sh: frames_bench does not run"; exit 1; }
-program=crates/frames_bench/out/frames_bench
+[ -x crates/stream_bench/out/stream_bench ] || (cd crates/stream_bench && rt run -- frames 7 < stdin > /dev/null 2>&1) || { echo "frames.sh: stream_bench does not run"; exit 1; }
+program=crates/stream_bench/out/stream_bench
 
 # taken FILE SIZE: the least seconds of the program over the file in pieces of this size; its answer has to be the one that is wanted
 taken() {
-    seconds 3 "$folder/$1" "$program" "$2" || return 1
+    seconds 3 "$folder/$1" "$program" frames "$2" || return 1
     cmp -s "$answer" "$folder/$1.wanted" || { echo "frames.sh: $1 in pieces of $2 gives $(cat "$answer")" >&2; return 1; }
 }
 

@@ -4,13 +4,8 @@
 set -u
 cd "$(dirname "$0")/.." || exit 1
 
-# built NAME WORD..: proves and builds a program that is not there, or is older than a source
-built() {
-    program=crates/$1/out/$1
-    [ -x "$program" ] && [ -z "$(find crates/*/src -name '*.rt' -newer "$program" | head -n 1)" ] && return
-    command -v rt >/dev/null || { echo "check.sh: skipped, there is no rt"; exit 0; }
-    (cd "crates/$1" && rt run -- "${@:2}" < stdin > /dev/null 2>&1) || { echo "check.sh: $1 does not run"; exit 1; }
-}
+name=check.sh
+. examples/programs.sh
 
 status=0
 built shape_replay replay
@@ -18,10 +13,10 @@ for script in examples/*.script; do
     crates/shape_replay/out/shape_replay replay < "$script" | cmp - "${script%.script}.output" || status=1
     echo "$script"
 done
-built frames_bench 7
+built stream_bench frames 7
 for wire in examples/*.wire; do
     for size in 1 7 100 4096 65536; do
-        crates/frames_bench/out/frames_bench "$size" < "$wire" | cmp - "${wire%.wire}.counts" || status=1
+        crates/stream_bench/out/stream_bench frames "$size" < "$wire" | cmp - "${wire%.wire}.counts" || status=1
     done
     echo "$wire"
 done

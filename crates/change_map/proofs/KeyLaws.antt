@@ -1,6 +1,6 @@
 -- Key values and key texts.
 use Rattle.std.proofs.Common.{◌≡◌, ℕ, suc, ◌+◌, ◌<◌, ◌≤◌, Bool, true, false, List, [], ◌∷◌, ◌++◌, length, map, take, drop, get_or, refl, sym, ◌∙◌, ap, subst, arith, add-one, append_assoc, Option, None, Some, min, ◌&&◌, ◌||◌, ◌==◌}
-use Rattle.std.proofs.lemmas.Bool.{false_from_ne_true, or_from}
+use Rattle.std.proofs.lemmas.Bool.{false_from_ne_true, or_from, or_right}
 use Rattle.std.specs.Prelude.{nat_le}
 use Rattle.std.specs.Option.{MatchOption}
 use Rattle.std.specs.List.{list_any, flat_map, slice_index_or, AllByRecursion}
@@ -101,8 +101,8 @@ lesser_of key row p c new true e null h is = let le : p ≤ c = grind (arith, na
 lesser_of key row p c new false e null h is = let lt : c < p = grind (arith, nat_tests) in let same : new ≡ c = omega (arith, lt, is) in subst (λ x. IsLeast (is_null_key (key ++ p ∷ []) row) x) (sym same) (least_before key row p c (omega (arith, lt)) h)
 
 null_added : (key : List ℕ) (row : Values) (p : ℕ) (o : Option ℕ) (new : ℕ) → is_null (slice_index_or row p Null) ≡ true → IsNullKey key row o → MatchOption o (new ≡ p) (λ c. new ≡ min p c) → IsNullKey (key ++ p ∷ []) row (Some new)
-null_added key row p None new null h is = (lacks_more key row p ∙ or_from _ _ null, subst (λ x. IsLeast (is_null_key (key ++ p ∷ []) row) x) (sym is) (least_last key row p null (λ m lt. given_none key row m h)))
-null_added key row p (Some c) new null h is = (lacks_more key row p ∙ or_from _ _ null, lesser_of key row p c new (nat_le p c) refl null h.1 is)
+null_added key row p None new null h is = (lacks_more key row p ∙ or_right _ _ null, subst (λ x. IsLeast (is_null_key (key ++ p ∷ []) row) x) (sym is) (least_last key row p null (λ m lt. given_none key row m h)))
+null_added key row p (Some c) new null h is = (lacks_more key row p ∙ or_right _ _ null, lesser_of key row p c new (nat_le p c) refl null h.1 is)
 
 pub null_next : (key : List ℕ) (row : Values) (i d : ℕ) (o : Option ℕ) → i < length key → is_null (slice_index_or row (get_or key i d) Null) ≡ false → IsNullKey (take i key) row o → IsNullKey (take (i + 1) key) row o
 null_next key row i d o lt given h = rw add-one (subst (λ ks. IsNullKey ks row o) (sym (take-suc key i d lt)) (null_kept (take i key) row (get_or key i d) o given h))

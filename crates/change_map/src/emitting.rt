@@ -8,7 +8,9 @@ ghost use Rattle.change_map.specs.Emitting.{in_order, own, IsWhole, IsBadAt, IsC
 use crate::cells::{cells_at, cells_that_differ};
 use crate::key::{have_same_key, null_key, write_key};
 use crate::order::in_name_order;
-use shape_base::{Cells, Change, ChangeKind, Entry, Offset, Op, OutOfMemory, Places, Row, RowTest, Tri};
+use shape_base::{
+    Cells, Change, ChangeKind, Entry, Offset, Op, OutOfMemory, Places, Row, RowTest, is_selected,
+};
 use std::alloc::Global;
 
 /// The entries of one change: none, one, or a delete and then an insert.
@@ -60,8 +62,8 @@ fn is_picked<T: RowTest>(test: &T, row: &Row) -> Result<bool, Unreadable>
     requires { length row.now ≡ length (T.knows test.now).definition.columns }
     ensures { MatchResult result (λ b. (b ≡ picks (T.knows test.now) row.now) × (is_bad (T.knows test.now) (Some row.now) ≡ false)) (λ e. (is_bad (T.knows test.now) (Some row.now) ≡ true) × IsBadAt (T.knows test.now) (T.unread test.now) row.now e.column) }
 {
-    let truth = match test.truth(row) {
-        Ok(truth) => truth,
+    let selected = match is_selected(test, row) {
+        Ok(selected) => selected,
         Err(error) => {
             return Err(Unreadable {
                 column: error.column,
@@ -71,11 +73,7 @@ fn is_picked<T: RowTest>(test: &T, row: &Row) -> Result<bool, Unreadable>
     if let Some(column) = null_key(test.key().as_slice(), row) {
         return Err(Unreadable { column });
     }
-    match truth {
-        Tri::True => Ok(true),
-        Tri::False => Ok(false),
-        Tri::Unknown => Ok(false),
-    }
+    Ok(selected)
 }
 
 impl Emitted {

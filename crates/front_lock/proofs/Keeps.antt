@@ -225,6 +225,7 @@ module _ {S E F : Type 0} (stands : S → F → ℕ → List E → Type 0) (fixe
     sees = kv.sees;
     tells = kv.tells;
     once = kv.once;
+    alike = λ share share_told. kv.same share ∙ sym (kv.alike share_told);
     whole = λ whole. let all = has_all s r id v at whole in let short = kv.short in
         let long : length r.history ≤ length v.own = dite (dec_le (length r.history) (length v.own)) (λ le. le)
         (λ no. let lt : length v.own < length r.history = omega arith in let x : false ≡ true = sym (past_marks v.own (length v.own) (omega arith)) ∙ all (length v.own) lt in absurd (cc)) in
@@ -242,6 +243,7 @@ module _ {S E F : Type 0} (stands : S → F → ℕ → List E → Type 0) (fixe
       → IsAt r.serving r.ticket ((r.history ≡ r.history) × out) stage → Knows r.history r.serving r.ticket fixed r.owner r.depth out id (staged stage (caught_up r.history v))
   knows_now s r id v stage out at rests h = let kv = r.each id v at in record {
     same = kv.same;
+    alike = kv.alike;
     sees = prefix_self r.history;
     tells = prefix_none r.history;
     short = let a = kv.short in let b = prefix_length v.seen r.history kv.sees in omega arith;
@@ -259,6 +261,7 @@ module _ {S E F : Type 0} (stands : S → F → ℕ → List E → Type 0) (fixe
       → Knows history serving ticket fixed owner depth out j v → (v.part ≡ 0 → stage ≡ Idle) → IsAt serving' ticket' ((v.seen ≡ history) × out') stage → Knows history serving' ticket' fixed owner depth out' j (staged stage v)
   knows_at history serving ticket serving' ticket' owner depth out out' j v stage k rests h = record {
     same = k.same;
+    alike = k.alike;
     sees = k.sees;
     tells = k.tells;
     short = k.short;
@@ -383,6 +386,7 @@ module _ {S E F : Type 0} (stands : S → F → ℕ → List E → Type 0) (fixe
             r.fits r.order (x, stays)
             record {
               same = kv.same;
+              alike = kv.alike;
               sees = subst (λ l. IsPrefix l longer) (sym seen_now) (prefix_self longer);
               tells = prefix_more v.told r.history (e ∷ []) kv.tells;
               short = omega (arith, marked_length v.own v.seen, length-append v.seen (e ∷ []));
@@ -398,6 +402,7 @@ module _ {S E F : Type 0} (stands : S → F → ℕ → List E → Type 0) (fixe
             }
             (λ j d ne there_j. let kd = r.each j d there_j in let shorter = prefix_length d.seen r.history kd.sees in let short = kd.short in record {
               same = kd.same;
+              alike = kd.alike;
               sees = prefix_more d.seen r.history (e ∷ []) kd.sees;
               tells = prefix_more d.told r.history (e ∷ []) kd.tells;
               short = kd.short;
@@ -458,7 +463,7 @@ module _ {S E F : Type 0} (stands : S → F → ℕ → List E → Type 0) (fixe
   pub halves_keep : (id : ℕ) (v : V) → Splits Rule id v (left_half v) (right_half v)
   halves_keep id v s r at = let l : V = left_half v in let w : V = right_half v in let kv = r.each id v at in let fine = kv.fine in let depth : ℕ = suc r.depth in
       let K : ℕ → V → Type 0 = Knows r.history r.serving r.ticket fixed r.owner depth (s.homes ≡ none ∷ []) in
-      let finer : (j : ℕ) (d : V) → get_elem? s.views j ≡ some d → K j d = (λ j d e. let kd = r.each j d e in let fd = kd.fine in record { same = kd.same; sees = kd.sees; tells = kd.tells; short = kd.short; owns = kd.owns; owned = kd.owned; once = kd.once; bare = kd.bare; rests = kd.rests; fine = omega arith; at = kd.at }) in
+      let finer : (j : ℕ) (d : V) → get_elem? s.views j ≡ some d → K j d = (λ j d e. let kd = r.each j d e in let fd = kd.fine in record { same = kd.same; alike = kd.alike; sees = kd.sees; tells = kd.tells; short = kd.short; owns = kd.owns; owned = kd.owned; once = kd.once; bare = kd.bare; rests = kd.rests; fine = omega arith; at = kd.at }) in
       let left_fine : v.depth + 1 ≤ depth = omega arith in
       record {
         history = r.history;
@@ -472,9 +477,10 @@ module _ {S E F : Type 0} (stands : S → F → ℕ → List E → Type 0) (fixe
         legal = r.legal;
         each = λ j d e. ⊎_elim
             (λ (h : get_elem? (set s.views id l) j ≡ some d).
-            set_all K s.views id l (record { same = kv.same; sees = kv.sees; tells = kv.tells; short = kv.short; owns = kv.owns; owned = kv.owned; once = kv.once; bare = kv.bare; rests = kv.rests; fine = left_fine; at = kv.at }) (λ i x _ at_i. finer i x at_i) j d h)
+            set_all K s.views id l (record { same = kv.same; alike = kv.alike; sees = kv.sees; tells = kv.tells; short = kv.short; owns = kv.owns; owned = kv.owned; once = kv.once; bare = kv.bare; rests = kv.rests; fine = left_fine; at = kv.at }) (λ i x _ at_i. finer i x at_i) j d h)
             (λ (h : (j ≡ length (set s.views id l)) × (w ≡ d)). subst (λ (z : V). K j z) h.1 record {
               same = kv.same;
+              alike = λ none_told. absurd (omega arith);
               sees = kv.sees;
               tells = prefix_none r.history;
               short = omega arith;
@@ -517,6 +523,7 @@ module _ {S E F : Type 0} (stands : S → F → ℕ → List E → Type 0) (fixe
         each = λ j d e. ⊎_elim (λ (h : get_elem? s.views j ≡ some d). r.each j d h)
             (λ (h : (j ≡ length s.views) × (w ≡ d)). subst (λ (z : V). K j z) h.1 record {
               same = λ no_share. absurd (omega arith);
+              alike = λ none_told. absurd (omega arith);
               sees = kv.sees;
               tells = prefix_none r.history;
               short = omega arith;
@@ -557,6 +564,7 @@ module _ {S E F : Type 0} (stands : S → F → ℕ → List E → Type 0) (fixe
       (λ outside. let past : false ≡ true = sym (past_marks v.own k (omega arith)) ∙ a in absurd (cc))) in
       let ku : K id u = record {
         same = λ _. kv.same some_share;
+        alike = kw.same;
         sees = longest_of v.seen w.seen r.history kv.sees kw.sees;
         tells = kw.sees;
         short = omega (arith, any_of_length v.own w.own, longest_length v.seen w.seen);
@@ -575,6 +583,7 @@ module _ {S E F : Type 0} (stands : S → F → ℕ → List E → Type 0) (fixe
       } in
       let kg : K other gone = record {
         same = λ no_share. absurd (omega arith);
+        alike = λ none_told. absurd (omega arith);
         sees = prefix_none r.history;
         tells = prefix_none r.history;
         short = omega arith;
@@ -588,6 +597,7 @@ module _ {S E F : Type 0} (stands : S → F → ℕ → List E → Type 0) (fixe
       } in
       let others : (j : ℕ) (d : V) → j ≢ id → j ≢ other → get_elem? s.views j ≡ some d → K j d = (λ j d ne ne' e. let kd = r.each j d e in record {
         same = kd.same;
+        alike = kd.alike;
         sees = kd.sees;
         tells = kd.tells;
         short = kd.short;
@@ -642,6 +652,7 @@ module _ {S E F : Type 0} (stands : S → F → ℕ → List E → Type 0) (fixe
     each = λ j d e. let v : V = first_view fixed in ⊎_elim (λ (h : get_elem? [] j ≡ some d). absurd (some-ne-none d (sym h)))
         (λ (h : (j ≡ 0) × (v ≡ d)). subst (λ (z : V). Knows [] 0 0 fixed (λ _. 0) 0 (some (Some x) ∷ [] ≡ none ∷ []) j z) h.1 record {
           same = λ _. refl;
+          alike = λ none_told. absurd (omega arith);
           sees = prefix_none [];
           tells = prefix_none [];
           short = omega arith;

@@ -82,7 +82,7 @@ IsAt serving ticket noted (Noted t) = (t ≡ serving) × (t < ticket) × noted
 module _ {E F : Type 0} where
   -- what the first seat knows
   abbrev pub first_view : F → View E F
-  first_view x = record { fixed = kept x; seen = []; told = []; own = []; own_first = []; own_second = []; part = 1; depth = 0; stage = Idle }
+  first_view x = record { fixed = kept x; seen = []; told = []; told_fixed = kept x; told_part = 0; own = []; own_first = []; own_second = []; part = 1; depth = 0; stage = Idle }
 
   -- one's own events, in order
   abbrev pub mine_of : View E F → List E
@@ -101,6 +101,8 @@ module _ {E F : Type 0} where
     pub record Knows (fixed : F) (owner : ℕ → ℕ) (depth : ℕ) (out : Type 0) (j : ℕ) (v : View E F) : Type 0 where
       -- a view with a share has the lock's data
       pub same : 0 < v.part → v.fixed.value ≡ fixed
+      -- so had the last view that was joined into this one
+      pub alike : 0 < v.told_part → v.told_fixed.value ≡ fixed
       -- what was seen, and what was told, begins the history
       pub sees : IsPrefix v.seen history
       pub tells : IsPrefix v.told history
@@ -164,15 +166,15 @@ module _ {E F : Type 0} where
   left_half v = record v { depth = v.depth + 1 }
 
   abbrev pub right_half : View E F → View E F
-  right_half v = record { fixed = v.fixed; seen = v.seen; told = []; own = []; own_first = []; own_second = []; part = v.part; depth = v.depth + 1; stage = Idle }
+  right_half v = record { fixed = v.fixed; seen = v.seen; told = []; told_fixed = v.fixed; told_part = 0; own = []; own_first = []; own_second = []; part = v.part; depth = v.depth + 1; stage = Idle }
 
   -- what a note knows
   abbrev pub noted : View E F → View E F
-  noted v = record { fixed = v.fixed; seen = v.seen; told = []; own = []; own_first = []; own_second = []; part = 0; depth = 0; stage = Idle }
+  noted v = record { fixed = v.fixed; seen = v.seen; told = []; told_fixed = v.fixed; told_part = 0; own = []; own_first = []; own_second = []; part = 0; depth = 0; stage = Idle }
 
   -- what a seat knows that was given up
   abbrev pub spent : F → View E F
-  spent x = record { fixed = kept x; seen = []; told = []; own = []; own_first = []; own_second = []; part = 0; depth = 0; stage = Idle }
+  spent x = record { fixed = kept x; seen = []; told = []; told_fixed = kept x; told_part = 0; own = []; own_first = []; own_second = []; part = 0; depth = 0; stage = Idle }
 
   -- the sum of two shares, in parts as fine as the finer of them
   abbrev pub shares : View E F → View E F → ℕ
@@ -180,13 +182,14 @@ module _ {E F : Type 0} where
 
   -- two views in one: the longer of what was seen, and the own events and shares of both
   abbrev pub joined : View E F → View E F → View E F
-  joined v w = record { fixed = v.fixed; seen = longest v.seen w.seen; told = w.seen; own = any_of v.own w.own; own_first = v.own; own_second = w.own; part = shares v w; depth = max v.depth w.depth; stage = v.stage }
+  joined v w = record { fixed = v.fixed; seen = longest v.seen w.seen; told = w.seen; told_fixed = w.fixed; told_part = w.part; own = any_of v.own w.own; own_first = v.own; own_second = w.own; part = shares v w; depth = max v.depth w.depth; stage = v.stage }
 
-  -- What a load of the history tells: it extends all that was seen and told, and with the whole share each event is one's own
+  -- What a load of the history tells: it extends all that was seen and told, the data are those of the view that was joined last, and with the whole share each event is one's own
   pub record CatchesUp (v : View E F) (history : List E) : Type 0 where
     pub sees : IsPrefix v.seen history
     pub tells : IsPrefix v.told history
     pub once : AreApart v.own_first v.own_second
+    pub alike : 0 < v.part → 0 < v.told_part → v.fixed.value ≡ v.told_fixed.value
     pub whole : IsWhole v → (v.seen ≡ history) × (picked v.own history ≡ history)
 
 module _ {S E F : Type 0} (stands : S → F → ℕ → List E → Type 0) where

@@ -122,12 +122,13 @@ impl<S: Stands> FrontLock<S> {
     }
 
     /// Two passes in one. It has seen at least all that both had, and has the own events and the shares of both. What
-    /// it has seen is one legal history: some state stands for it.
+    /// it has seen is one legal history: some state stands for it. Both passes show the same data.
     pub fn join(&self, first: Pass<S>, second: Pass<S>) -> Pass<S>
         requires first { first.lock ≡ self.now }
         requires second { second.lock ≡ self.now }
         ensures seen { IsPrefix first.seen result.seen × IsPrefix second.seen result.seen }
         ensures legal { (x : S) × S.stands x first.fixed 0 result.seen }
+        ensures data { second.fixed ≡ first.fixed }
         ensures own { result.own ≡ any_of first.own second.own }
         ensures mine { (picked first.own result.seen ≡ mine first) × (picked second.own result.seen ≡ mine second) }
         ensures each_once { length (mine result) ≡ length (mine first) + length (mine second) }

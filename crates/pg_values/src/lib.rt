@@ -7,6 +7,4 @@
 
 pub mod kind;
 pub mod laws;
-#[cfg(test)]
-mod tests;
 pub mod value;

@@ -14,6 +14,3 @@ pub use fault::MessageError;
 pub use message::{Before, ColumnSent, ColumnsSent, Field, Fields, Message};
 pub use reading::read_message;
 pub use writing::write_message;
-
-#[cfg(test)]
-mod tests;

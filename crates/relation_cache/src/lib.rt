@@ -6,6 +6,3 @@ mod relations;
 
 pub use relation::Relation;
 pub use relations::{Relations, UnknownRelation};
-
-#[cfg(test)]
-mod cases;

@@ -13,3 +13,7 @@ pub use Rattle.shape_base.proofs.LogLaw.{log_fold}
 pub use Rattle.shape_base.proofs.EndLaw.{same_end}
 pub use Rattle.shape_base.proofs.SameLog.{same_log}
 pub use Rattle.shape_base.proofs.ChunkLaws.{full_is, chunks_cut, chunks_stay}
+pub use Rattle.shape_base.proofs.RegistryLaws.{was_registered-append, was_registered_under-append, was_removed-append, had_ready-append, legal_next, legal_front, legal_follows}
+pub use Rattle.shape_base.proofs.KeyText.{all_key_texts_tell, key_texts_tell}
+pub use Rattle.shape_base.proofs.Commits.{keyed_from, fold-emit, truths_changed}
+pub use Rattle.shape_base.proofs.Shown.{map_of}

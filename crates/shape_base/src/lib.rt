@@ -4,8 +4,6 @@
 #![tactic(auto)]
 
 mod ask;
-#[cfg(test)]
-mod cases;
 mod cause;
 mod change;
 mod decimal;

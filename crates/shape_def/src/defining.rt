@@ -12,7 +12,10 @@ use crate::choosing::choose;
 use crate::condition::Condition;
 use crate::faults::DefError;
 use crate::index::{Index, index_of, places_in};
-use shape_base::{Ask, BadValue, Duplicate, OutOfMemory, Places, Row, RowTest, Served, ServedTables, TableDef, Text, Tri};
+use shape_base::{
+    Ask, BadValue, Duplicate, OutOfMemory, Places, Row, RowTest, Served, ServedTables, TableDef,
+    Text, Tri,
+};
 use std::alloc::Global;
 
 /// What a shape knows of its definition: the served table, the columns, the places of the key and

@@ -9,7 +9,10 @@ ghost use Rattle.shape_base.specs.declared.history.Step.TheVariants.{Commit};
 
 use super::keys::fit_def;
 use super::tables::after_change;
-use shape_base::{Change, ChangeKind, Duplicate, OutOfMemory, Row, Rows, Served, Step, Steps, TableDef, TableDefs, Tx, are_same_defs, are_same_rows};
+use shape_base::{
+    Change, ChangeKind, Duplicate, OutOfMemory, Row, Rows, Served, Step, Steps, TableDef,
+    TableDefs, Tx, are_same_defs, are_same_rows,
+};
 use std::alloc::Global;
 
 /// How a table stands: its definition, its rows, and the definitions since its last change.

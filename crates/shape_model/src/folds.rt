@@ -8,7 +8,10 @@ ghost use Rattle.shape_base.specs.declared.entry.Op.TheVariants.{Insert, Update,
 ghost use Rattle.shape_base.specs.Maps.{map_in};
 ghost use Rattle.shape_model.specs.Maps.{pairs_of, Folds, FailsAt};
 
-use shape_base::{Cell, Cells, Duplicate, Entries, Entry, KeyedRow, KeyedRows, Op, OutOfMemory, Text, Value, are_same_texts};
+use shape_base::{
+    Cell, Cells, Duplicate, Entries, Entry, KeyedRow, KeyedRows, Op, OutOfMemory, Text, Value,
+    are_same_texts,
+};
 use std::alloc::Global;
 use std::collections::BTreeMap;
 

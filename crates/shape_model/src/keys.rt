@@ -8,7 +8,10 @@ ghost use Rattle.shape_base.specs.Tables as tables;
 ghost use Rattle.shape_model.specs.Checks as checks;
 ghost use Rattle.shape_model.specs.Checks.{value_text};
 
-use shape_base::{Columns, Numbers, OutOfMemory, Row, Rows, Served, TableDef, Text, Texts, Value, are_same_texts, push_quoted};
+use shape_base::{
+    Columns, Numbers, OutOfMemory, Row, Rows, Served, TableDef, Text, Texts, Value, are_same_texts,
+    push_quoted,
+};
 use std::alloc::Global;
 use std::collections::BTreeMap;
 

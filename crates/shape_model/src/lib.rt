@@ -1,5 +1,5 @@
 //! The definitions of tables, histories and folds as plain, slow code. The command `check` and the
-//! tests replay whole histories with it; every faster crate is held to the same definitions.
+//! cases replay whole histories with it; every faster crate is held to the same definitions.
 #![tactic(auto)]
 
 mod checks;
@@ -7,8 +7,6 @@ mod folds;
 mod good;
 mod keys;
 mod tables;
-#[cfg(test)]
-mod tests;
 
 pub use folds::{ModelError, fold};
 pub use good::{HistoryError, good_history};

@@ -3,7 +3,9 @@ ghost use Rattle.std.specs.Prelude.{◌≡◌, ℕ, suc, ◌<◌, ◌≤◌, ◌
 ghost use Rattle.shape_base.specs.Tables.{Values, Table, in_place, changed, changes_of, own_of, after_changes, after_step};
 ghost use Rattle.shape_base.specs.Tables as Tables;
 
-use shape_base::{Change, ChangeKind, Duplicate, History, OutOfMemory, Row, Rows, Step, Tx, are_same_rows};
+use shape_base::{
+    Change, ChangeKind, Duplicate, History, OutOfMemory, Row, Rows, Step, Tx, are_same_rows,
+};
 use std::alloc::Global;
 
 /// The place of the first row that is equal to `old`.

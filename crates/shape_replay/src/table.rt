@@ -11,7 +11,10 @@ ghost use Rattle.shape_replay.specs.Profile.{is_name, all_differ, is_key, key_of
 
 use crate::record::{Declaration, KeyPlace, NamedColumn, Snapshot};
 use pgout::{ColumnSent, ColumnsSent, Field, Fields};
-use shape_base::{Cell, Cells, Column, Columns, Duplicate, Entry, Octets, Offset, Op, OutOfMemory, Row, Seq, TableDef, Text, TextError, Value, push_quoted};
+use shape_base::{
+    Cell, Cells, Column, Columns, Duplicate, Entry, Octets, Offset, Op, OutOfMemory, Row, Seq,
+    TableDef, Text, TextError, Value, push_quoted,
+};
 use std::alloc::Global;
 use std::marker::Model;
 

@@ -1,5 +1,0 @@
-use Rattle.std.specs.Prelude.{slice_get, length}
-use Rattle.adders.proofs.numbers.add.Given as goal
-
-abbrev pub ghosts-give : goal.ghosts-give
-ghosts-give g a = record { event = slice_get a.state.items.items (length a.held.seen) }

@@ -1,4 +1,0 @@
-use Rattle.adders.proofs.race.raced.Given as goal
-
-abbrev pub ghosts-race : goal.ghosts-race
-ghosts-race g a = record { table = a.lock }
