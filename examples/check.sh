@@ -1,6 +1,6 @@
 #!/usr/bin/env bash
-# Replays the scripts of this folder and compares what is printed; takes the frames of its wires, cut into pieces of several sizes, and compares their
-# counts. Skips where a tool is missing. Takes the programs that `rt ci` or `rt run` left, where no source is newer.
+# Makes the scripts of this folder from their texts and compares them; replays them and compares what is printed; takes the frames of its wires, cut into
+# pieces of several sizes, and compares their counts. Skips where a tool is missing. Takes the programs that `rt ci` or `rt run` left, where no source is newer.
 set -u
 cd "$(dirname "$0")/.." || exit 1
 
@@ -8,6 +8,14 @@ name=check.sh
 . examples/programs.sh
 
 status=0
+if command -v python3 > /dev/null; then
+    for text in examples/*.text; do
+        python3 examples/script.py write < "$text" | cmp - "${text%.text}.script" || status=1
+        echo "$text"
+    done
+else
+    echo "check.sh: the texts are skipped, there is no python3"
+fi
 built shape_replay replay
 for script in examples/*.script; do
     crates/shape_replay/out/shape_replay replay < "$script" | cmp - "${script%.script}.output" || status=1

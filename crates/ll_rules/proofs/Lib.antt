@@ -1,3 +1,4 @@
 pub mod RuleLaws
 pub mod MoreLaws
 pub mod UnderLaws
+pub mod Lemmas

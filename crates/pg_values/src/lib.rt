@@ -5,6 +5,9 @@
 //! texts, and `compare` says how two values stand to one another. No call takes memory.
 #![tactic(auto)]
 
-pub mod kind;
+mod kind;
 pub mod laws;
-pub mod value;
+mod value;
+
+pub use kind::{Kind, kind_of};
+pub use value::{BadValueText, compare, has_value, read_bool, read_int, read_uuid};

@@ -12,8 +12,7 @@ ghost use Rattle.pg_values.specs.Values.{kind_under, has_value};
 ghost use Rattle.pg_values.specs.declared.kind.Kind.TheVariants.{Other};
 
 use cases::{Answers, answer_lines, bytes_of, cut};
-use pg_values::kind::{Kind, kind_of};
-use pg_values::value::{BadValueText, compare, has_value, read_bool, read_int, read_uuid};
+use pg_values::{BadValueText, Kind, compare, has_value, kind_of, read_bool, read_int, read_uuid};
 use shape_base::{OutOfMemory, Text};
 use std::alloc::Global;
 use std::cmp::Ordering;

@@ -1,6 +1,6 @@
 -- The laws of a definition's test.
 use Rattle.std.proofs.Common.{◌≡◌, ◌≢◌, ℕ, zero, suc, ◌+◌, ◌<◌, ◌≤◌, Bool, true, false, not, List, [], ◌∷◌, length, map, drop, get_or, refl, sym, ◌∙◌, ap, subst, arith, zero-add, Option, None, Some, is_some, ◌||◌, ◌&&◌, ◌==◌}
-use Rattle.std.proofs.lemmas.Bool.{false_from_ne_true, and_from, or_parts}
+use Rattle.std.proofs.lemmas.Bool.{false_from_ne_true, and_from, or_right, or_parts}
 use Rattle.std.specs.Prelude.{nat_le, nat_lt, AllPairs}
 use Rattle.std.specs.Bool.{if◌then◌else◌}
 use Rattle.std.specs.Option.{option_map}
@@ -14,7 +14,8 @@ use Rattle.shape_base.specs.Tables.{same_text, place_of, places_of, with_place, 
 use Rattle.shape_base.specs.Shape.{IsTest, name_at}
 use Rattle.shape_base.proofs.Lemmas.{Decides-same_text}
 use Rattle.shape_def.specs.Identity.{Names}
-use Rattle.shape_def.specs.Definition.{has_name_twice, places_from, leaves_out, knows_of}
+use Rattle.shape_def.specs.Definition.{places_from, leaves_out, knows_of}
+use Rattle.column_names.specs.Names.{has_name_twice}
 
 -- ---- the places of different names are different
 
@@ -79,12 +80,8 @@ rise_from passes (c ∷ cs) low i high h e =
 any_here : (p i : ℕ) (rest : List ℕ) → p ≡ i → list_any (λ q. p == q) (i ∷ rest) ≡ true
 any_here p i rest e = rw ((Decides-eqb p i).1 e) refl
 
-or_true : (a : Bool) → (a || true) ≡ true
-or_true true = refl
-or_true false = refl
-
 any_later : (b : Bool) (p i : ℕ) (rest : List ℕ) → list_any (λ q. p == q) rest ≡ true → list_any (λ q. p == q) (if b then i ∷ rest else rest) ≡ true
-any_later true p i rest h = rw h (or_true (p == i))
+any_later true p i rest h = or_right (p == i) _ h
 any_later false p i rest h = h
 
 among_step : (passes : List ℕ → Bool) (a n : List ℕ) (o : Option ℕ) (p i : ℕ) (rest : List ℕ) (s : Bool) → same_text a n ≡ s → (if s then Some 0 else option_map (λ q. q + 1) o) ≡ Some p → passes a ≡ true

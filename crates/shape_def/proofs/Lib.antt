@@ -1,7 +1,7 @@
 pub mod Sets
 pub mod Telling
 pub mod Writing
-pub mod Indexing
+pub mod Chosen
 pub mod Reading
 pub mod Lawful
 pub mod Refusals

@@ -8,10 +8,11 @@ use Rattle.shape_base.specs.declared.row_test.BadValue.{BadValue}
 use Rattle.shape_base.specs.Tables.{Values}
 use Rattle.shape_base.specs.Shape.{IsLeast}
 use Rattle.where_grammar.specs.Tree.{Tree}
-use Rattle.where_parser.specs.declared.parse.ParseError.{ParseError}
-use Rattle.where_parser.specs.declared.parse.ParseError.TheVariants as parsing
+use Rattle.where_grammar.specs.Clause.{IsClauseText}
+use Rattle.where_parser.specs.declared.parsing.ParseError.{ParseError}
+use Rattle.where_parser.specs.declared.parsing.ParseError.TheVariants as parsing
 use Rattle.where_parser.specs.Whole.{IsTreeOf, IsSyntaxAt, IsDeepAt}
-use Rattle.where_parser.proofs.Parsed.{tree_answer, syntax_answer, deep_answer}
+use Rattle.where_parser.proofs.Lemmas.{tree_answer, syntax_answer, deep_answer, tree_said, syntax_said, deep_said, memory_not_said}
 use Rattle.where_eval.specs.declared.checked.Checked.{Checked}
 use Rattle.where_eval.specs.declared.faults.CheckError.{CheckError}
 use Rattle.where_eval.specs.declared.faults.CheckError.TheVariants as checking
@@ -19,10 +20,14 @@ use Rattle.where_eval.specs.Checked.{IsChecked, IsCheck, IsTruth, width}
 use Rattle.shape_def.specs.Clauses.{answer_in, truth_by, truth_under, unread_by, unread_under, of_parse, of_check, refusal_by}
 use Rattle.shape_def.specs.Definition.{IsRefusal}
 use Rattle.shape_def.specs.Held.{IsHeldFor, IsHeld}
+use Rattle.shape_def.specs.Laws.{FollowsTheGrammar, AnswersFollowTheGrammar}
+
+clause_answer : (text : List ℕ) (tree : Tree) → IsClauseText 64 text tree → answer_in text ≡ Ok tree
+unfolding answer_in
+clause_answer text tree h = tree_answer text tree h
 
 answer_tree : (text : List ℕ) (tree : Tree) → IsTreeOf text tree → answer_in text ≡ Ok tree
-unfolding answer_in
-answer_tree text tree h = tree_answer text tree h.clause
+answer_tree text tree h = clause_answer text tree h.clause
 
 answer_syntax : (text : List ℕ) (place : ℕ) → IsSyntaxAt text place → answer_in text ≡ Err (parsing.Syntax place)
 unfolding answer_in
@@ -31,6 +36,18 @@ answer_syntax text place h = syntax_answer text place h
 answer_deep : (text : List ℕ) (place : ℕ) → IsDeepAt text place → answer_in text ≡ Err (parsing.TooDeep place)
 unfolding answer_in
 answer_deep text place h = deep_answer text place h
+
+answer_follows : (text : List ℕ) → FollowsTheGrammar text
+unfolding answer_in
+answer_follows text = record {
+  tree = λ tree. (λ e. (tree_said text tree e).clause, clause_answer text tree);
+  syntax = λ place. (syntax_said text place, answer_syntax text place);
+  too_deep = λ place. (deep_said text place, answer_deep text place);
+  answered = memory_not_said text;
+}
+
+pub follows_the_grammar : AnswersFollowTheGrammar
+follows_the_grammar text = answer_follows text
 
 pub parse_refused : (c : List Column) (text : List ℕ) (e : ParseError) → ((place : ℕ) → e ≡ parsing.Syntax place → IsSyntaxAt text place) → ((place : ℕ) → e ≡ parsing.TooDeep place → IsDeepAt text place) → IsRefusal (refusal_by c (answer_in text)) (of_parse e)
 parse_refused c text parsing.OutOfMemory syntax deep = tt

@@ -1,40 +1,30 @@
 -- Refusals in their order.
-use Rattle.std.proofs.Common.{◌≡◌, ◌<◌, length, get_or, Result, IfOk, IfSome, ℕ, Bool, true, false, List, [], ◌∷◌, refl, sym, ◌∙◌, ap, subst, Option, None, Some, is_none, ◌||◌}
+use Rattle.std.proofs.Common.{◌≡◌, ◌<◌, length, get_or, Result, Ok, Err, IfOk, IfSome, ℕ, Bool, true, false, List, refl, sym, ◌∙◌, ap, subst, Option, None, Some, is_none, ◌||◌}
+use Rattle.std.proofs.lemmas.Bool.{or_right}
 use Rattle.std.specs.Bool.{if◌then◌else◌}
-use Rattle.std.specs.Option.{option_or, MatchOption}
+use Rattle.std.specs.Option.{option_or, option_map}
 use Rattle.std.specs.List.{slice_get}
 use Rattle.std.specs.Result.{IfErr}
 use Rattle.std.proofs.lemmas.Option.{slice_get-get_or}
-use Rattle.std.specs.BTreeMap.{BTreeMap}
 use Rattle.shape_base.specs.declared.definition.Column.{Column}
 use Rattle.shape_base.specs.declared.definition.TableDef.{TableDef}
 use Rattle.shape_base.specs.declared.served.Served.{Served}
-use Rattle.shape_base.specs.Tables.{place_of, places_of, with_place, key_places}
+use Rattle.shape_base.specs.Tables.{place_of, places_of, key_places}
+use Rattle.column_names.specs.Names.{has_name_twice}
 use Rattle.shape_def.specs.declared.faults.DefError.{DefError}
 use Rattle.shape_def.specs.declared.faults.DefError.TheVariants as errors
 use Rattle.shape_def.specs.Identity.{Names}
 use Rattle.shape_def.specs.Clauses.{refusal_of_clause, truth_under}
-use Rattle.shape_def.specs.Indexed.{place_in, places_in, IsIndex}
-use Rattle.shape_def.specs.Definition.{has_name_twice, is_chosen, places_from, is_key_missing, has_strange_name, leaves_out, refusal_of_choice, refusal_of, IsRefusal, knows_of, IsDefined}
-use Rattle.shape_base.specs.Shape.{IsTest}
+use Rattle.shape_def.specs.Definition.{is_chosen, places_from, is_key_missing, has_strange_name, leaves_out, refusal_of_choice, refusal_of, IsRefusal, knows_of, IsDefined, selected_places, knows_by, knows_with, knows_for}
+use Rattle.shape_base.specs.Shape.{IsTest, Knows}
 use Rattle.shape_def.proofs.Lawful.{is_lawful}
-
--- the places by the map are the places among the columns
-pub same_places : (place : List ℕ → Option ℕ) (served : Served) (d : TableDef) → place ≡ place_of d.columns → places_in place served.key ≡ key_places served d
-same_places place served d e = ap (λ (f : List ℕ → Option ℕ). places_in f served.key) e ∙ by served.key where
-  by : (names : Names) → places_in (place_of d.columns) names ≡ places_of d.columns names
-  by [] = refl
-  by (n ∷ ns) = ap (with_place (place_of d.columns n)) (by ns)
 
 -- a definition with its key, and one without
 pub key_there : (served : Served) (d : TableDef) (key : List ℕ) → key_places served d ≡ Some key → has_name_twice d.columns ≡ false → is_key_missing served d ≡ false
 key_there served d key is once = rw (once, is) refl
 
 pub key_lacks : (served : Served) (d : TableDef) → key_places served d ≡ None → is_key_missing served d ≡ true
-key_lacks served d is = ap (λ (o : Option (List ℕ)). has_name_twice d.columns || is_none o) is ∙ or_true (has_name_twice d.columns) where
-  or_true : (a : Bool) → (a || true) ≡ true
-  or_true true = refl
-  or_true false = refl
+key_lacks served d is = ap (λ (o : Option (List ℕ)). has_name_twice d.columns || is_none o) is ∙ or_right (has_name_twice d.columns) true refl
 
 pub key_twice : (served : Served) (d : TableDef) → has_name_twice d.columns ≡ true → is_key_missing served d ≡ true
 key_twice served d h = rw h refl
@@ -115,21 +105,13 @@ pub is_test : (copied served : Served) (d e : TableDef) (key selected : List ℕ
     → selected ≡ places_from (is_chosen chosen) 0 d.columns → refusal_of_choice place served.key chosen ≡ None → IsTest (knows_of copied e key selected held)
 is_test copied served d e key selected chosen held place copy same is once places none = is_lawful copied served d e key selected (is_chosen chosen) held copy same is once places (key_chosen place served.key chosen none)
 
--- what the map of columns and the places by it say
+-- what the places of the key say
 
-abbrev pub IsFound : List Column → Option (BTreeMap (List ℕ) ℕ) → Type 0
-IsFound cs found = MatchOption found (has_name_twice cs ≡ true) (λ index. (has_name_twice cs ≡ false) × IsIndex index cs)
+pub key_not_found : (served : Served) (d : TableDef) (columns : List Column) (found : Option (List ℕ)) → columns ≡ d.columns → found ≡ places_of columns served.key → found ≡ None → IsKeyRefusal served d errors.KeyMissing
+key_not_found served d columns found same by none = key_refused served d (key_lacks served d (ap (λ (cs : List Column). places_of cs served.key) (sym same) ∙ sym by ∙ none))
 
-pub key_not_found : (served : Served) (d : TableDef) (o : Option (BTreeMap (List ℕ) ℕ)) (index : BTreeMap (List ℕ) ℕ) (found : Option (List ℕ)) → o ≡ Some index → IsFound d.columns o → found ≡ places_in (place_in index) served.key → found ≡ None → IsKeyRefusal served d errors.KeyMissing
-key_not_found served d o index found some h by none =
-    let parts : (has_name_twice d.columns ≡ false) × IsIndex index d.columns = subst (IsFound d.columns) some h in
-    key_refused served d (key_lacks served d (sym (same_places (place_in index) served d parts.1.finds) ∙ sym by ∙ none))
-
-pub key_found : (served : Served) (d : TableDef) (o : Option (BTreeMap (List ℕ) ℕ)) (index : BTreeMap (List ℕ) ℕ) (found : Option (List ℕ)) (key : List ℕ) → o ≡ Some index → IsFound d.columns o → found ≡ places_in (place_in index) served.key → found ≡ Some key
-    → IsIndex index d.columns × (key_places served d ≡ Some key) × (has_name_twice d.columns ≡ false)
-key_found served d o index found key some h by is =
-    let parts : (has_name_twice d.columns ≡ false) × IsIndex index d.columns = subst (IsFound d.columns) some h in
-    (parts.1, sym (same_places (place_in index) served d parts.1.finds) ∙ sym by ∙ is, parts.0)
+pub key_found : (served : Served) (d : TableDef) (columns : List Column) (found : Option (List ℕ)) (key : List ℕ) → columns ≡ d.columns → found ≡ places_of columns served.key → found ≡ Some key → key_places served d ≡ Some key
+key_found served d columns found key same by is = ap (λ (cs : List Column). places_of cs served.key) (sym same) ∙ sym by ∙ is
 
 -- the served table in a place
 
@@ -141,3 +123,20 @@ defined_at r Q tables i j s lt place is h = subst (λ (o : Option Served). IfOk 
 
 pub refused_at : {A E : Type 0} (r : Result A E) (Q : Served → E → Type 0) (tables : List Served) (i j : ℕ) (s : Served) → i < length tables → j ≡ i → s ≡ get_or tables j s → IfErr r (λ e. Q s e) → IfErr r (λ e. IfSome (slice_get tables i) (λ served. Q served e))
 refused_at r Q tables i j s lt place is h = subst (λ (o : Option Served). IfErr r (λ e. IfSome o (λ served. Q served e))) (sym (served_at tables i j s lt place is)) h
+
+-- what the definition for a request knows
+
+pub defined_knows : (tables : List Served) (table : ℕ) (served : Served) (d : TableDef) (chosen : Option Names) (clause : Option (List ℕ)) (s : Knows) → slice_get tables table ≡ Some served → IsDefined s served d chosen clause → knows_for tables table d chosen clause ≡ Some s
+unfolding knows_for
+defined_knows tables table served d chosen clause s is h =
+    ap (knows_with d chosen clause) is ∙ ap (knows_by served d chosen clause) h.allowed
+    ∙ ap (option_map (λ key. knows_of served d key (selected_places d chosen) clause)) h.key ∙ ap (λ (k : Knows). Some k) same
+  where
+    same : knows_of served d s.key (selected_places d chosen) clause ≡ s
+    same = let table = sym h.served in let columns = sym h.definition in let places = sym h.selected in let truth = sym h.truth in
+        λ i. record { served = table i; definition = columns i; key = s.key; selected = places i; truth = truth i }
+
+pub known_at : {A E : Type 0} (r : Result A E) (knows : A → Knows) (tables : List Served) (i j : ℕ) (s : Served) (d : TableDef) (chosen : Option Names) (clause : Option (List ℕ)) → i < length tables → j ≡ i → s ≡ get_or tables j s
+    → IfOk r (λ a. IsDefined (knows a) s d chosen clause) → IfOk r (λ a. knows_for tables i d chosen clause ≡ Some (knows a))
+known_at (Ok a) knows tables i j s d chosen clause lt place is h = defined_knows tables i s d chosen clause (knows a) (served_at tables i j s lt place is) h
+known_at (Err e) knows tables i j s d chosen clause lt place is h = tt

@@ -3,7 +3,6 @@ use Rattle.std.proofs.Common.{◌≡◌, ℕ, Bool, true, false, List, [], ◌�
 use Rattle.std.specs.Ordering.{match_ordering, ordering_reverse}
 use Rattle.std.specs.List.{list_any, AllByRecursion}
 use Rattle.std.specs.List.Sorted.{IsStrictlySortedBy}
-use Rattle.std.specs.Cmp.{eq_by_cmp_equiv}
 use Rattle.std.specs.Cmp.Lexicographic.{nat_list_cmp_total}
 use Rattle.std.specs.BTreeMap.{is_at}
 use Rattle.std.specs.BTreeSet.{BTreeSet, insert_key, contains}
@@ -11,25 +10,13 @@ use Rattle.std.specs.declared.cmp.Ordering.{Ordering}
 use Rattle.std.specs.declared.cmp.Ordering.TheVariants.{Less, Equal, Greater}
 use Rattle.std.proofs.lemmas.Map.Lookups.{btree_set_from_contains}
 use Rattle.shape_base.specs.Tables.{same_text}
-use Rattle.shape_base.proofs.Lemmas.{text_cmp, exact, tied, same_from_tied, tied_self, Decides-same_text}
+use Rattle.shape_base.proofs.Lemmas.{text_cmp, exact}
+use Rattle.column_names.proofs.Lemmas.{is_tied}
 use Rattle.shape_def.specs.Identity.{Names, in_order, IsSameSet}
 
 -- whether a name is among names
 abbrev pub has : Names → List ℕ → Bool
 has names name = list_any (same_text name) names
-
--- the test of equality is the one by order
-same_tests : (x q : List ℕ) (a b : Bool) → same_text q x ≡ a → tied q x ≡ b → a ≡ b
-same_tests x q true true e f = refl
-same_tests x q false false e f = refl
-same_tests x q true false e f = let same : q ≡ x = (Decides-same_text q x).0 e in let t : tied q x ≡ true = subst (λ y. tied q y ≡ true) same (tied_self q) in cc
-same_tests x q false true e f = let t : same_text q x ≡ true = (Decides-same_text q x).1 (same_from_tied q x f) in cc
-
-pub is_tied : (x q : List ℕ) → same_text q x ≡ tied q x
-is_tied x q = same_tests x q (same_text q x) (tied q x) refl refl
-
-pub is_it : (x q : List ℕ) → is_at (text_cmp x) q ≡ same_text q x
-is_it x q = (eq_by_cmp_equiv nat_list_cmp_total).symm x q ∙ sym (is_tied x q)
 
 has_tied : (names : Names) (q : List ℕ) → list_any (is_at (text_cmp q)) names ≡ has names q
 has_tied [] q = refl

@@ -10,8 +10,8 @@ use Rattle.shape_base.specs.Shape.{reads_from}
 use Rattle.where_grammar.specs.Tree.{Tree}
 use Rattle.where_grammar.specs.Clause.{tokens_in}
 use Rattle.where_grammar.specs.Meaning.{clause_of}
-use Rattle.where_parser.specs.declared.parse.ParseError.{ParseError}
-use Rattle.where_parser.specs.declared.parse.ParseError.TheVariants as parsing
+use Rattle.where_parser.specs.declared.parsing.ParseError.{ParseError}
+use Rattle.where_parser.specs.declared.parsing.ParseError.TheVariants as parsing
 use Rattle.where_parser.specs.Whole.{answer_of}
 use Rattle.where_eval.specs.declared.faults.CheckError.{CheckError}
 use Rattle.where_eval.specs.declared.faults.CheckError.TheVariants as checking

@@ -1,21 +1,17 @@
 -- What a shape's definition is, and why there is none.
-use Rattle.std.specs.Prelude.{◌≡◌, ℕ, ◌+◌, Bool, true, false, not, ◌||◌, if◌then◌else◌, List, [], ◌∷◌, Option, None, Some, is_none, is_some}
-use Rattle.std.specs.Option.{option_or}
+use Rattle.std.specs.Prelude.{◌≡◌, ℕ, ◌+◌, Bool, true, false, not, ◌||◌, if◌then◌else◌, List, [], ◌∷◌, Option, None, Some, is_none, slice_get}
+use Rattle.std.specs.Option.{option_or, option_map}
 use Rattle.std.specs.List.{list_any}
 use Rattle.shape_base.specs.declared.definition.Column.{Column}
 use Rattle.shape_base.specs.declared.definition.TableDef.{TableDef}
 use Rattle.shape_base.specs.declared.served.Served.{Served}
 use Rattle.shape_base.specs.Tables.{same_text, place_of, key_places}
 use Rattle.shape_base.specs.Shape.{Knows}
+use Rattle.column_names.specs.Names.{has_name_twice}
 use Rattle.shape_def.specs.declared.faults.DefError.{DefError}
 use Rattle.shape_def.specs.declared.faults.DefError.TheVariants as errors
 use Rattle.shape_def.specs.Identity.{Names}
 use Rattle.shape_def.specs.Clauses.{truth_under, refusal_of_clause}
-
--- a name of a column that a later column has too
-abbrev pub has_name_twice : List Column → Bool
-has_name_twice [] = false
-has_name_twice (c ∷ cs) = is_some (place_of cs c.name) || has_name_twice cs
 
 -- the column is chosen; where no columns are chosen all are
 abbrev pub is_chosen : Option Names → List ℕ → Bool
@@ -79,3 +75,16 @@ pub record IsDefined (s : Knows) (table : Served) (d : TableDef) (chosen : Optio
   pub selected : s.selected ≡ selected_places d chosen
   pub truth : s.truth ≡ truth_under d.columns clause
   pub allowed : refusal_of table d chosen clause ≡ None
+
+-- what a definition knows where this refuses it
+abbrev pub knows_by : Served → TableDef → Option Names → Option (List ℕ) → Option DefError → Option Knows
+knows_by served d chosen clause (Some error) = None
+knows_by served d chosen clause None = option_map (λ key. knows_of served d key (selected_places d chosen) clause) (key_places served d)
+
+abbrev pub knows_with : TableDef → Option Names → Option (List ℕ) → Option Served → Option Knows
+knows_with d chosen clause None = None
+knows_with d chosen clause (Some served) = knows_by served d chosen clause (refusal_of served d chosen clause)
+
+-- What the definition for a request knows: over the served table in a place, its definition, the chosen columns and the clause; nothing where it is refused.
+unfoldable pub knows_for : List Served → ℕ → TableDef → Option Names → Option (List ℕ) → Option Knows
+knows_for tables table d chosen clause = knows_with d chosen clause (slice_get tables table)

@@ -2,4 +2,5 @@ pub mod Identity
 pub mod Clauses
 pub mod Definition
 pub mod Held
-pub mod Indexed
+pub mod Chosen
+pub mod Laws

@@ -1,11 +1,13 @@
 //! The columns that a request chooses.
 ghost use Rattle.std.specs.Prelude.{◌≡◌, ◌<◌, ◌^◌, ◌++◌, ◌∷◌, [], length, None, IfOk, IfErr, OnOk, if◌then◌else◌};
-ghost use Rattle.shape_def.specs.Indexed.{place_in, is_in};
+ghost use Rattle.shape_base.specs.Tables.{place_of};
+ghost use Rattle.shape_def.specs.Chosen.{is_in};
 ghost use Rattle.shape_def.specs.Definition.{is_chosen, places_from, leaves_out, refusal_of_choice, IsRefusal};
 
 use crate::faults::DefError;
 use crate::identities::name_set;
-use crate::index::{Index, has_strange_name};
+use crate::index::has_strange_name;
+use column_names::ColumnNames;
 use shape_base::{Columns, OutOfMemory, Places, Text, Texts};
 use std::alloc::Global;
 use std::collections::BTreeSet;
@@ -76,21 +78,20 @@ fn places_of(
 /// The places of the chosen columns.
 pub(crate) fn choose(
     alloc: Global,
-    index: &Index,
-    columns: &Columns,
+    columns: &ColumnNames,
     key: &Texts,
     names: &Option<Texts>,
 ) -> Result<Places, DefError>
     requires { length columns.now < 2 ^ 32 }
-    ensures ok { IfOk result (λ places. (places ≡ places_from (is_chosen names.now) 0 columns.now) × (refusal_of_choice (place_in index.now) key.now names.now ≡ None)) }
-    ensures err { IfErr result (λ e. IsRefusal (refusal_of_choice (place_in index.now) key.now names.now) e) }
+    ensures ok { IfOk result (λ places. (places ≡ places_from (is_chosen names.now) 0 columns.now) × (refusal_of_choice (place_of columns.now) key.now names.now ≡ None)) }
+    ensures err { IfErr result (λ e. IsRefusal (refusal_of_choice (place_of columns.now) key.now names.now) e) }
 {
-    if has_strange_name(index, names) {
+    if has_strange_name(columns, names) {
         return Err(DefError::UnknownColumn { atom: None });
     }
     let set = set_of(alloc, names)?;
     if leaves_out(&set, key) {
         return Err(DefError::KeyNotSelected);
     }
-    Ok(places_of(alloc, &set, columns)?)
+    Ok(places_of(alloc, &set, columns.columns())?)
 }

@@ -12,9 +12,8 @@ use shape_base::{BadValue, Columns, Duplicate, OutOfMemory, Row, TableDef, Text,
 use std::alloc::Global;
 use std::marker::Model;
 use std::sync::Arc;
-use where_eval::check::check;
-use where_eval::checked::Checked;
-use where_parser::parse::parse;
+use where_eval::{Checked, check};
+use where_parser::parse;
 
 /// A checked clause, which copies of a definition share.
 type Shared = Arc<Checked, Global>;
@@ -112,7 +111,7 @@ impl Condition {
     {
         match &self.checked {
             None => Ok(Tri::True),
-            Some(checked) => where_eval::truth::truth(checked.as_ref(), row),
+            Some(checked) => where_eval::truth(checked.as_ref(), row),
         }
     }
 }

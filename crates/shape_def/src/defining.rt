@@ -5,13 +5,14 @@ ghost use Rattle.shape_base.specs.Tables.{key_places};
 ghost use Rattle.shape_base.specs.Shape.{IsTest};
 ghost use Rattle.shape_def.specs.declared.faults.DefError.TheVariants as errors;
 ghost use Rattle.shape_def.specs.Clauses.{unread_under, reads_under};
-ghost use Rattle.shape_def.specs.Definition.{has_name_twice, is_key_missing, refusal_of, knows_of, IsRefusal, IsDefined};
-ghost use Rattle.shape_def.specs.Indexed.{IsIndex};
+ghost use Rattle.column_names.specs.Names.{has_name_twice};
+ghost use Rattle.shape_def.specs.Definition.{is_key_missing, refusal_of, knows_of, knows_for, IsRefusal, IsDefined};
 
 use crate::choosing::choose;
 use crate::condition::Condition;
 use crate::faults::DefError;
-use crate::index::{Index, index_of, places_in};
+use crate::index::places_of;
+use column_names::ColumnNames;
 use shape_base::{
     Ask, BadValue, Duplicate, OutOfMemory, Places, Row, RowTest, Served, ServedTables, TableDef,
     Text, Tri,
@@ -33,7 +34,7 @@ pub struct Def {
 /// The columns by their names, and the places of the key columns.
 #[derive(Drop)]
 struct Keyed {
-    index: Index,
+    columns: ColumnNames,
     key: Places,
 }
 
@@ -41,16 +42,17 @@ struct Keyed {
 /// its columns have one name.
 fn find_key(alloc: Global, served: &Served, def: &TableDef) -> Result<Keyed, DefError>
     requires { length def.now.columns < 2 ^ 32 }
-    ensures ok { IfOk result (λ made. IsIndex made.index def.now.columns × (key_places served.now def.now ≡ Some made.key) × (has_name_twice def.now.columns ≡ false)) }
+    ensures ok { IfOk result (λ made. (made.columns ≡ def.now.columns) × (key_places served.now def.now ≡ Some made.key) × (has_name_twice def.now.columns ≡ false)) }
     ensures err { IfErr result (λ e. IsRefusal (if is_key_missing served.now def.now then Some errors.KeyMissing else None) e) }
 {
-    let Some(index) = index_of(alloc, &def.columns)? else {
+    let columns = ColumnNames::new(alloc, &def.columns)?;
+    if columns.has_name_twice() {
+        return Err(DefError::KeyMissing);
+    }
+    let Some(key) = places_of(alloc, &columns, &served.key)? else {
         return Err(DefError::KeyMissing);
     };
-    let Some(key) = places_in(alloc, &index, &served.key)? else {
-        return Err(DefError::KeyMissing);
-    };
-    Ok(Keyed { index, key })
+    Ok(Keyed { columns, key })
 }
 
 /// The definition for a request of this served table.
@@ -61,7 +63,7 @@ fn define(alloc: Global, served: &Served, ask: &Ask, def: &TableDef) -> Result<D
     ensures err { IfErr result (λ e. IsRefusal (refusal_of served.now def.now ask.now.columns ask.now.clause) e) }
 {
     let keyed = find_key(alloc, served, def)?;
-    let selected = choose(alloc, &keyed.index, &def.columns, &served.key, &ask.columns)?;
+    let selected = choose(alloc, &keyed.columns, &served.key, &ask.columns)?;
     let condition = Condition::new(alloc, def, &ask.clause)?;
     let served = served.copy(alloc)?;
     let identity = ask.identity.copy(alloc)?;
@@ -94,6 +96,7 @@ impl Def {
         requires served { ask.now.table < length tables.now }
         requires few { length def.now.columns < 2 ^ 32 }
         ensures ok { IfOk result (λ made. IfSome (slice_get tables.now ask.now.table) (λ served. IsDefined (knows_of made.served made.condition.definition made.key made.selected made.condition.clause) served def.now ask.now.columns ask.now.clause)) }
+        ensures knows { IfOk result (λ made. knows_for tables.now ask.now.table def.now ask.now.columns ask.now.clause ≡ Some (knows_of made.served made.condition.definition made.key made.selected made.condition.clause)) }
         ensures identity { IfOk result (λ made. made.identity ≡ ask.now.identity) }
         ensures err { IfErr result (λ e. IfSome (slice_get tables.now ask.now.table) (λ served. IsRefusal (refusal_of served def.now ask.now.columns ask.now.clause) e)) }
     {

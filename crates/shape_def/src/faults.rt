@@ -1,7 +1,7 @@
 //! Why a request has no definition.
 use shape_base::OutOfMemory;
-use where_eval::faults::CheckError;
-use where_parser::parse::ParseError;
+use where_eval::CheckError;
+use where_parser::ParseError;
 
 /// Why a request has no definition, in the order in which they are tried; want of memory may come always.
 #[derive(Debug, Drop)]

@@ -15,16 +15,13 @@ use Rattle.where_eval.specs.Leaves.{leaves, names_place}
 use Rattle.where_eval.specs.Kinds.{kind_at}
 use Rattle.where_eval.specs.Scalars.{tri_of}
 use Rattle.where_eval.specs.Truth.{is_unreadable}
+use Rattle.where_eval.proofs.Seeing.{readable}
 use Rattle.where_eval.specs.Faults.{first_of, fault, asked, unknown_column, fault_of}
 use Rattle.where_eval.specs.Compiled.{Compiles}
 use Rattle.where_eval.specs.Checked.{AreRead, kind_read, IsKnown, IsChecked, IsCheck}
 
 abbrev pub later_fault : List Column → Tree → Option CheckError
 later_fault c tree = first_of (fault c 0 tree ∷ asked c kinds.Boolean 0 (tree ∷ []) ∷ [])
-
-readable : (v : Value) → is_unreadable kinds.Other v ≡ false
-readable values.Null = refl
-readable (values.Words text) = refl
 
 read_where : (b : Bool) (k : Kind) (v : Value) → is_unreadable (if b then k else kinds.Other) v ≡ (b && is_unreadable k v)
 read_where true k v = refl

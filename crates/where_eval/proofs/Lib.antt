@@ -1,6 +1,5 @@
 pub mod Likes
 pub mod Chains
-pub mod Indexing
 pub mod Seeing
 pub mod Compiling
 pub mod Truths

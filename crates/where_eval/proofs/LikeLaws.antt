@@ -1,14 +1,10 @@
 -- The test of LIKE is its relation.
 use Rattle.std.proofs.Common.{◌≡◌, ◌≢◌, ℕ, Bool, true, false, List, [], ◌∷◌, ◌++◌, ◌==◌, ◌&&◌, if◌then◌else◌, refl, sym, ap, ◌∙◌, subst, ⊎_elim}
-use Rattle.std.proofs.lemmas.Bool.{eqb-true, eq-eqb, and_from, or_right}
+use Rattle.std.proofs.lemmas.Bool.{eqb-true, eq-eqb, and_from, and_parts, or_right}
 use Rattle.std.proofs.lemmas.Bool.Decides.{eqb_tells}
 use Rattle.where_eval.specs.declared.like.Piece.TheVariants.{Run, One, Exactly}
 use Rattle.where_eval.specs.Like.{percent, underscore, backslash, IsLike, ended, a_run, a_character, escaped, itself, is_cut, is_cut_behind, piece_of, pieces_of, pieces_behind, on_some_end, behind, fits}
-use Rattle.where_eval.proofs.Likes.{begins, either, and_right}
-
-and_left : (a b : Bool) → (a && b) ≡ true → a ≡ true
-and_left true b h = refl
-and_left false b h = absurd (cc)
+use Rattle.where_eval.proofs.Likes.{begins, either}
 
 -- an end of the text on which the test passes
 record Ends (f : List ℕ → Bool) (text : List ℕ) : Type 0 where
@@ -38,12 +34,12 @@ one_like c rest (d ∷ text) is more h = subst (λ e. IsLike (e ∷ rest) (d ∷
 
 same_like : (c : ℕ) (rest text : List ℕ) → c ≢ percent → c ≢ underscore → c ≢ backslash → ((u : List ℕ) → fits (pieces_of rest) u ≡ true → IsLike rest u) → behind (Exactly c) (fits (pieces_of rest)) text ≡ true → IsLike (c ∷ rest) text
 same_like c rest [] p u b more h = absurd (cc)
-same_like c rest (d ∷ text) p u b more h = subst (λ e. IsLike (c ∷ rest) (e ∷ text)) (eqb-true c d (and_left (c == d) (fits (pieces_of rest) text) h)) (itself c rest text p u b (more text (and_right (c == d) (fits (pieces_of rest) text) h)))
+same_like c rest (d ∷ text) p u b more h = subst (λ e. IsLike (c ∷ rest) (e ∷ text)) (eqb-true c d ((and_parts (c == d) (fits (pieces_of rest) text) h).0)) (itself c rest text p u b (more text ((and_parts (c == d) (fits (pieces_of rest) text) h).1)))
 
 escaped_like : (c d : ℕ) (rest text : List ℕ) → c ≡ backslash → ((u : List ℕ) → fits (pieces_of rest) u ≡ true → IsLike rest u) → behind (Exactly d) (fits (pieces_of rest)) text ≡ true → IsLike (c ∷ d ∷ rest) text
 escaped_like c d rest [] is more h = absurd (cc)
 escaped_like c d rest (e ∷ text) is more h = subst (λ a. IsLike (a ∷ d ∷ rest) (e ∷ text)) (sym is)
-    (subst (λ a. IsLike (backslash ∷ d ∷ rest) (a ∷ text)) (eqb-true d e (and_left (d == e) (fits (pieces_of rest) text) h)) (escaped d rest text (more text (and_right (d == e) (fits (pieces_of rest) text) h))))
+    (subst (λ a. IsLike (backslash ∷ d ∷ rest) (a ∷ text)) (eqb-true d e ((and_parts (d == e) (fits (pieces_of rest) text) h).0)) (escaped d rest text (more text ((and_parts (d == e) (fits (pieces_of rest) text) h).1))))
 
 -- what a character asks for
 asks_run : (c : ℕ) → c ≡ percent → piece_of c ≡ Run

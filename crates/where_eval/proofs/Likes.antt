@@ -1,26 +1,16 @@
 -- Laws of LIKE: going along what is asked for and the text.
 use Rattle.std.proofs.Common.{◌≡◌, ◌≤◌, ℕ, Bool, true, false, ◌&&◌, ◌||◌, List, [], ◌∷◌, length, refl, sym, ap, ◌∙◌, arith, subst}
-use Rattle.std.proofs.lemmas.Bool.{or_left, or_right}
+use Rattle.std.proofs.lemmas.Bool.{and_parts, or_left, or_right}
+use Rattle.std.specs.Cmp.{both_ways}
 use Rattle.where_eval.specs.declared.like.Piece.{Piece}
 use Rattle.where_eval.specs.declared.like.Piece.TheVariants.{Run, One, Exactly}
 use Rattle.where_eval.specs.Like.{is_run, takes, behind, on_some_end, fits}
 use Rattle.where_eval.specs.Walks.{IsAtRun}
 
--- two tests that pass together are equal
-same_tests : (a b : Bool) → (a ≡ true → b ≡ true) → (b ≡ true → a ≡ true) → a ≡ b
-same_tests true true f g = refl
-same_tests true false f g = sym (f refl)
-same_tests false true f g = g refl
-same_tests false false f g = refl
-
 -- from one of two
 pub either : {C : Type 0} → (a b : Bool) → (a || b) ≡ true → (a ≡ true → C) → (b ≡ true → C) → C
 either true b h f g = f refl
 either false b h f g = g h
-
-pub and_right : (a b : Bool) → (a && b) ≡ true → b ≡ true
-and_right true b h = h
-and_right false b h = absurd (cc)
 
 pub begins : (f : List ℕ → Bool) (text : List ℕ) → f text ≡ true → on_some_end f text ≡ true
 begins f [] h = h
@@ -30,12 +20,12 @@ begins f (c ∷ rest) h = or_left (f (c ∷ rest)) (on_some_end f rest) h
 behind_ends : (x : Piece) (f : List ℕ → Bool) (text : List ℕ) → on_some_end (behind x f) text ≡ true → on_some_end f text ≡ true
 behind_ends x f [] h = absurd (cc)
 behind_ends x f (c ∷ rest) h = either (takes x c && f rest) (on_some_end (behind x f) rest) h
-    (λ here. or_right (f (c ∷ rest)) (on_some_end f rest) (begins f rest (and_right (takes x c) (f rest) here)))
+    (λ here. or_right (f (c ∷ rest)) (on_some_end f rest) (begins f rest ((and_parts (takes x c) (f rest) here).1)))
     (λ there. or_right (f (c ∷ rest)) (on_some_end f rest) (behind_ends x f rest there))
 
 behind_end : (x : Piece) (f : List ℕ → Bool) (c : ℕ) (rest : List ℕ) → on_some_end (behind x f) (c ∷ rest) ≡ true → on_some_end f rest ≡ true
 behind_end x f c rest h = either (takes x c && f rest) (on_some_end (behind x f) rest) h
-    (λ here. begins f rest (and_right (takes x c) (f rest) here))
+    (λ here. begins f rest ((and_parts (takes x c) (f rest) here).1))
     (λ there. behind_ends x f rest there)
 
 ends_of_ends : (f : List ℕ → Bool) (text : List ℕ) → on_some_end (on_some_end f) text ≡ true → on_some_end f text ≡ true
@@ -100,7 +90,7 @@ at_run pieces asked others text left x w a r fewer shorter =
     let cut : asked ≡ Run ∷ others = a ∙ ap (λ y. y ∷ others) (a_run x r) in
     let v : IsWalked pieces text (Run ∷ others) left = subst (λ u. IsWalked pieces text u left) cut w in
     let size : length asked ≡ length (x ∷ others) = ap length a in
-    record { here = v.same; later = same_tests (fits (Run ∷ pieces) text) (fits (Run ∷ others) left) (λ h. ends_of_ends (fits others) left (v.later h)) (λ h. begins (fits pieces) text (v.same ∙ h)); fewer = omega (arith, size, fewer); shorter = shorter }
+    record { here = v.same; later = both_ways (fits (Run ∷ pieces) text) (fits (Run ∷ others) left) (λ h. ends_of_ends (fits others) left (v.later h)) (λ h. begins (fits pieces) text (v.same ∙ h)); fewer = omega (arith, size, fewer); shorter = shorter }
 
 -- a run before the pieces, or none
 abbrev pub led : Bool → List Piece → List Piece

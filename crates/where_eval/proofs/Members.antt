@@ -4,7 +4,7 @@ use Rattle.shape_base.specs.declared.definition.Column.{Column}
 use Rattle.pg_values.specs.declared.kind.Kind.{Kind}
 use Rattle.where_grammar.specs.Tree.{Tree, Trees, NoTree, TreeAnd}
 use Rattle.where_eval.specs.declared.faults.CheckError.{CheckError}
-use Rattle.where_eval.specs.declared.asking.Clean.{Clean}
+use Rattle.where_eval.specs.declared.typing.Clean.{Clean}
 use Rattle.where_eval.specs.Leaves.{listed, next, next_all}
 use Rattle.where_eval.specs.Kinds.{is_bad_literal}
 use Rattle.where_eval.specs.Faults.{first_of, fault, faults, bad_literal}

@@ -103,7 +103,7 @@ read_other c all left rest read l r cut none = record {
 }
 
 -- a kind that is not read has no unread text
-readable : (v : Value) → is_unreadable kinds.Other v ≡ false
+pub readable : (v : Value) → is_unreadable kinds.Other v ≡ false
 readable values.Null = refl
 readable (values.Words text) = refl
 

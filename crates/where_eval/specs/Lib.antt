@@ -13,4 +13,3 @@ pub mod MemberFaults
 pub mod Compiled
 pub mod Checked
 pub mod Laws
-pub mod Indexed

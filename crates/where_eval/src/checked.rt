@@ -2,7 +2,7 @@
 ghost use Rattle.std.specs.Prelude.{◌≤◌, length};
 
 use crate::plan::Plan;
-use pg_values::kind::Kind;
+use pg_values::Kind;
 
 /// A clause that was checked against columns.
 #[derive(Drop)]

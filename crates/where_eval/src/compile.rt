@@ -9,34 +9,35 @@ ghost use Rattle.where_eval.specs.Truth.{values_of};
 ghost use Rattle.where_parser.specs.View.{tree_of, trees_of};
 ghost use Rattle.where_eval.specs.Compiled.{Compiles, AllCompile};
 
-use crate::columns::{Index, kind_at, place_of};
+use crate::columns::kind_at;
 use crate::constant::Constant;
-use crate::datum::{Datum, read};
 use crate::kinds::{kind_of_list, kind_of_three, kind_of_two};
 use crate::like::pieces;
 use crate::plan::{Plan, Plans};
-use pg_values::kind::Kind;
+use crate::read_value::{ReadValue, read};
+use column_names::ColumnNames;
+use pg_values::Kind;
 use shape_base::{Duplicate, OutOfMemory, Text};
 use std::alloc::Global;
-use where_parser::expr::{CmpOp, Expr, Exprs, IsTest};
+use where_parser::{CmpOp, Expr, Exprs, IsTest};
 
 /// The constant that a string is under a kind.
 fn constant(alloc: Global, text: &Text, kind: Kind) -> Result<Constant, OutOfMemory>
     ensures { IfOk result (λ constant. scalar_of constant ≡ read_under kind text.now) }
 {
     match read(text, kind) {
-        Datum::Null => Ok(Constant::Null),
-        Datum::Truth(truth) => Ok(Constant::Truth(truth)),
-        Datum::Number(number) => Ok(Constant::Number(number)),
-        Datum::Words(text) => Ok(Constant::Words(text.copy(alloc)?)),
-        Datum::Id(id) => Ok(Constant::Id(id)),
+        ReadValue::Null => Ok(Constant::Null),
+        ReadValue::Truth(truth) => Ok(Constant::Truth(truth)),
+        ReadValue::Number(number) => Ok(Constant::Number(number)),
+        ReadValue::Words(text) => Ok(Constant::Words(text.copy(alloc)?)),
+        ReadValue::Id(id) => Ok(Constant::Id(id)),
     }
 }
 
-fn column(columns: &Index, kind: Kind, name: &Text) -> Plan
+fn column(columns: &ColumnNames, kind: Kind, name: &Text) -> Plan
     ensures { Compiles columns.now kind result (NameOf name.now) }
 {
-    match place_of(columns, name) {
+    match columns.place_of(name) {
         Some(place) => Plan::Column {
             place,
             kind: kind_at(columns, place),
@@ -62,7 +63,7 @@ fn chain(alloc: Global, mut members: Vec<Plan>) -> Result<Plans, OutOfMemory>
 #[cycle(compile)]
 fn members(
     alloc: Global,
-    columns: &Index,
+    columns: &ColumnNames,
     kind: Kind,
     list: &Exprs,
 ) -> Result<Vec<Plan>, OutOfMemory>
@@ -84,7 +85,7 @@ fn members(
 #[cycle(compile)]
 fn compile_all(
     alloc: Global,
-    columns: &Index,
+    columns: &ColumnNames,
     kind: Kind,
     list: &Exprs,
 ) -> Result<Plans, OutOfMemory>
@@ -94,7 +95,12 @@ fn compile_all(
 }
 
 #[cycle(compile)]
-fn boxed(alloc: Global, columns: &Index, kind: Kind, expr: &Expr) -> Result<Box<Plan>, OutOfMemory>
+fn boxed(
+    alloc: Global,
+    columns: &ColumnNames,
+    kind: Kind,
+    expr: &Expr,
+) -> Result<Box<Plan>, OutOfMemory>
     ensures { IfOk result (λ boxed. Compiles columns.now kind boxed.value (tree_of expr.now)) }
 {
     Ok(Box::new(alloc, compile(alloc, columns, kind, expr)?)?)
@@ -104,7 +110,7 @@ fn boxed(alloc: Global, columns: &Index, kind: Kind, expr: &Expr) -> Result<Box<
 #[cycle(compile)]
 fn tested(
     alloc: Global,
-    columns: &Index,
+    columns: &ColumnNames,
     left: &Expr,
     not: bool,
     test: IsTest,
@@ -126,7 +132,7 @@ fn tested(
 #[cycle(compile)]
 fn distinct(
     alloc: Global,
-    columns: &Index,
+    columns: &ColumnNames,
     left: &Expr,
     not: bool,
     right: &Expr,
@@ -145,7 +151,7 @@ fn distinct(
 #[cycle(compile)]
 fn compared(
     alloc: Global,
-    columns: &Index,
+    columns: &ColumnNames,
     op: CmpOp,
     left: &Expr,
     right: &Expr,
@@ -164,7 +170,7 @@ fn compared(
 #[cycle(compile)]
 fn within(
     alloc: Global,
-    columns: &Index,
+    columns: &ColumnNames,
     left: &Expr,
     not: bool,
     list: &Exprs,
@@ -183,7 +189,7 @@ fn within(
 #[cycle(compile)]
 fn between(
     alloc: Global,
-    columns: &Index,
+    columns: &ColumnNames,
     left: &Expr,
     not: bool,
     low: &Expr,
@@ -202,7 +208,12 @@ fn between(
 
 /// The plan of a part; a string is read under the kind.
 #[cycle(compile)]
-pub fn compile(alloc: Global, columns: &Index, kind: Kind, expr: &Expr) -> Result<Plan, OutOfMemory>
+pub fn compile(
+    alloc: Global,
+    columns: &ColumnNames,
+    kind: Kind,
+    expr: &Expr,
+) -> Result<Plan, OutOfMemory>
     ensures { IfOk result (λ plan. Compiles columns.now kind plan (tree_of expr.now)) }
 {
     match expr {

@@ -1,3 +1,4 @@
+//! Values that a clause writes.
 use shape_base::Text;
 
 /// A constant of a clause, read under the kind that its place asks for.

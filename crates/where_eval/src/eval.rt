@@ -8,47 +8,49 @@ ghost use Rattle.where_eval.specs.Data.{seen, wish};
 ghost use Rattle.where_eval.specs.Plans.{meaning, meanings, scalar_of, truth_beside};
 
 use crate::constant::Constant;
-use crate::datum::{Datum, compared, is_distinct, like, of_tri, passes, read_cell, tri_of};
 use crate::logic::{and_of, negated, not_of, of_bool, or_of};
 use crate::plan::{Plan, Plans};
-use pg_values::kind::Kind;
+use crate::read_value::{
+    ReadValue, compared, is_distinct, like, of_tri, passes, read_cell, tri_of,
+};
+use pg_values::Kind;
 use shape_base::{Row, Tri};
-use where_parser::expr::CmpOp;
+use where_parser::CmpOp;
 
-fn constant(constant: &Constant) -> Datum
+fn constant(constant: &Constant) -> ReadValue
     ensures { seen result ≡ scalar_of constant.now }
 {
     match constant {
-        Constant::Null => Datum::Null,
-        Constant::Truth(truth) => Datum::Truth(*truth),
-        Constant::Number(number) => Datum::Number(*number),
-        Constant::Words(text) => Datum::Words(text),
-        Constant::Id(id) => Datum::Id(*id),
+        Constant::Null => ReadValue::Null,
+        Constant::Truth(truth) => ReadValue::Truth(*truth),
+        Constant::Number(number) => ReadValue::Number(*number),
+        Constant::Words(text) => ReadValue::Words(text),
+        Constant::Id(id) => ReadValue::Id(*id),
     }
 }
 
-fn cell(row: &Row, place: u64, kind: Kind) -> Datum
+fn cell(row: &Row, place: u64, kind: Kind) -> ReadValue
     ensures { seen result ≡ read_value kind (slice_index_or row.now place Null) }
 {
     match row.as_slice().get(place as usize) {
         Some(value) => read_cell(value, kind),
-        None => Datum::Null,
+        None => ReadValue::Null,
     }
 }
 
 /// The truth of a member: its own, or whether it equals what is wanted.
-fn member(wanted: Option<Datum>, datum: Datum) -> Tri
-    ensures { result ≡ truth_beside (wish wanted.entry) (seen datum.entry) }
+fn member(wanted: Option<ReadValue>, given: ReadValue) -> Tri
+    ensures { result ≡ truth_beside (wish wanted.entry) (seen given.entry) }
 {
     match wanted {
-        Some(wanted) => compared(CmpOp::Eq, wanted, datum),
-        None => tri_of(datum),
+        Some(wanted) => compared(CmpOp::Eq, wanted, given),
+        None => tri_of(given),
     }
 }
 
 /// The OR of the members, or of the equalities with them.
 #[cycle(eval)]
-fn any(wanted: Option<Datum>, list: &Plans, row: &Row) -> Tri
+fn any(wanted: Option<ReadValue>, list: &Plans, row: &Row) -> Tri
     ensures { result ≡ any_of (map (truth_beside (wish wanted.entry)) (meanings list.now row.now)) }
 {
     let mut found = Tri::False;
@@ -81,7 +83,7 @@ fn all(list: &Plans, row: &Row) -> Tri
 }
 
 /// The AND of two comparisons.
-fn between(middle: Datum, low: Datum, high: Datum) -> Tri
+fn between(middle: ReadValue, low: ReadValue, high: ReadValue) -> Tri
     ensures { result ≡ all_of (compared_scalars ops.Ge (seen middle.entry) (seen low.entry) ∷ compared_scalars ops.Le (seen middle.entry) (seen high.entry) ∷ []) }
 {
     and_of(
@@ -92,7 +94,7 @@ fn between(middle: Datum, low: Datum, high: Datum) -> Tri
 
 /// The value of a plan over a row.
 #[cycle(eval)]
-pub fn value<'a>(plan: &'a Plan, row: &'a Row) -> Datum<'a>
+pub fn value<'a>(plan: &'a Plan, row: &'a Row) -> ReadValue<'a>
     ensures { seen result ≡ meaning plan.now row.now }
 {
     match plan {

@@ -7,11 +7,11 @@ ghost use Rattle.where_parser.specs.View.{tree_of, trees_of};
 ghost use Rattle.where_eval.specs.Leaves.{listed};
 ghost use Rattle.where_eval.specs.Kinds.{kind_of_part, kind_in_place, common, or_kind as or_other, is_of_class as of_class, suits as may_stand, is_bad_literal as bad_literal};
 
-use crate::columns::{Index, kind_at, place_of};
-use pg_values::kind::Kind;
-use pg_values::value::has_value;
+use crate::columns::kind_at;
+use column_names::ColumnNames;
+use pg_values::{Kind, has_value};
 use shape_base::Text;
-use where_parser::expr::{Expr, Exprs};
+use where_parser::{Expr, Exprs};
 
 /// An OID of a type of this kind.
 pub fn oid_of(kind: Kind) -> u32
@@ -29,17 +29,17 @@ pub fn oid_of(kind: Kind) -> u32
 }
 
 /// The kind of a name's column.
-fn kind_of_name(columns: &Index, name: &Text) -> Kind
+fn kind_of_name(columns: &ColumnNames, name: &Text) -> Kind
     ensures { result ≡ kind_in_place columns.now (place_in columns.now name.now) }
 {
-    match place_of(columns, name) {
+    match columns.place_of(name) {
         Some(place) => kind_at(columns, place),
         None => Kind::Other,
     }
 }
 
 /// The kind of a part; a string and NULL have none of their own.
-fn part_kind(columns: &Index, part: &Expr) -> Option<Kind>
+fn part_kind(columns: &ColumnNames, part: &Expr) -> Option<Kind>
     ensures { result ≡ kind_of_part columns.now (tree_of part.now) }
 {
     match part {
@@ -61,7 +61,7 @@ fn or_kind(kind: Option<Kind>, other: Kind) -> Kind
 }
 
 /// The first kind among the members, or text.
-fn list_kind(columns: &Index, list: &Exprs) -> Kind
+fn list_kind(columns: &ColumnNames, list: &Exprs) -> Kind
     ensures { result ≡ common columns.now (listed (trees_of list.now)) }
 {
     let mut left = list;
@@ -75,7 +75,7 @@ fn list_kind(columns: &Index, list: &Exprs) -> Kind
 }
 
 /// The kind that two parts are compared under.
-pub fn kind_of_two(columns: &Index, left: &Expr, right: &Expr) -> Kind
+pub fn kind_of_two(columns: &ColumnNames, left: &Expr, right: &Expr) -> Kind
     ensures { result ≡ common columns.now (tree_of left.now ∷ tree_of right.now ∷ []) }
 {
     or_kind(
@@ -85,14 +85,14 @@ pub fn kind_of_two(columns: &Index, left: &Expr, right: &Expr) -> Kind
 }
 
 /// The kind that three parts are compared under.
-pub fn kind_of_three(columns: &Index, left: &Expr, low: &Expr, high: &Expr) -> Kind
+pub fn kind_of_three(columns: &ColumnNames, left: &Expr, low: &Expr, high: &Expr) -> Kind
     ensures { result ≡ common columns.now (tree_of left.now ∷ tree_of low.now ∷ tree_of high.now ∷ []) }
 {
     or_kind(part_kind(columns, left), kind_of_two(columns, low, high))
 }
 
 /// The kind that a part is compared under with the members of a list.
-pub fn kind_of_list(columns: &Index, left: &Expr, list: &Exprs) -> Kind
+pub fn kind_of_list(columns: &ColumnNames, left: &Expr, list: &Exprs) -> Kind
     ensures { result ≡ common columns.now (tree_of left.now ∷ listed (trees_of list.now)) }
 {
     or_kind(part_kind(columns, left), list_kind(columns, list))
@@ -114,7 +114,7 @@ fn is_of_class(kind: Kind, other: Kind) -> bool
 }
 
 /// Whether the part may stand where the kind is asked for.
-pub fn suits(columns: &Index, kind: Kind, part: &Expr) -> bool
+pub fn suits(columns: &ColumnNames, kind: Kind, part: &Expr) -> bool
     ensures { result ≡ may_stand columns.now kind (tree_of part.now) }
 {
     match part_kind(columns, part) {
@@ -124,7 +124,7 @@ pub fn suits(columns: &Index, kind: Kind, part: &Expr) -> bool
 }
 
 /// Whether each member may.
-pub fn all_suit(columns: &Index, kind: Kind, list: &Exprs) -> bool
+pub fn all_suit(columns: &ColumnNames, kind: Kind, list: &Exprs) -> bool
     ensures { result ≡ list_all (may_stand columns.now kind) (listed (trees_of list.now)) }
 {
     let mut left = list;

@@ -4,9 +4,9 @@ ghost use Rattle.shape_base.specs.Tables.{place_of as place_in};
 ghost use Rattle.where_parser.specs.View.{tree_of, trees_of};
 ghost use Rattle.where_eval.specs.Leaves.{leaves as leaves_of, all_leaves, leaf_at, stepped as stepped_number, unknown_from};
 
-use crate::columns::{Index, place_of};
+use column_names::ColumnNames;
 use shape_base::{OutOfMemory, Text};
-use where_parser::expr::{Expr, Exprs};
+use where_parser::{Expr, Exprs};
 
 /// What a leaf is to a table.
 #[derive(Clone, Copy, Drop)]
@@ -27,7 +27,7 @@ pub fn stepped(number: u32) -> u32
 
 /// Adds the leaves of the members.
 #[cycle(leaves)]
-fn add_members(out: &mut Vec<Leaf>, columns: &Index, list: &Exprs) -> Result<(), OutOfMemory>
+fn add_members(out: &mut Vec<Leaf>, columns: &ColumnNames, list: &Exprs) -> Result<(), OutOfMemory>
     ensures { OnOk result (out.new.items ≡ out.old.items ++ all_leaves columns.now (trees_of list.now)) }
 {
     let mut left = list;
@@ -40,7 +40,11 @@ fn add_members(out: &mut Vec<Leaf>, columns: &Index, list: &Exprs) -> Result<(),
 
 /// Adds the leaves of a part.
 #[cycle(leaves)]
-pub fn add_leaves(out: &mut Vec<Leaf>, columns: &Index, expr: &Expr) -> Result<(), OutOfMemory>
+pub fn add_leaves(
+    out: &mut Vec<Leaf>,
+    columns: &ColumnNames,
+    expr: &Expr,
+) -> Result<(), OutOfMemory>
     ensures { OnOk result (out.new.items ≡ out.old.items ++ leaves_of columns.now (tree_of expr.now)) }
 {
     match expr {
@@ -86,10 +90,10 @@ fn add(out: &mut Vec<Leaf>, leaf: Leaf) -> Result<(), OutOfMemory>
     Ok(())
 }
 
-fn named(columns: &Index, name: &Text) -> Leaf
+fn named(columns: &ColumnNames, name: &Text) -> Leaf
     ensures { result ≡ leaf_at (place_in columns.now name.now) }
 {
-    match place_of(columns, name) {
+    match columns.place_of(name) {
         Some(place) => Leaf::Column(place),
         None => Leaf::Unknown,
     }

@@ -4,19 +4,24 @@
 //! unknown by PostgreSQL's three-valued logic (manual, chapters 9.1, 9.2, 9.7.1 and 9.24).
 #![tactic(auto)]
 
-pub mod asking;
-pub mod check;
-pub mod checked;
-pub mod columns;
-pub mod compile;
-pub mod constant;
-pub mod datum;
-pub mod eval;
-pub mod faults;
-pub mod kinds;
+mod checked;
+mod checking;
+mod columns;
+mod compile;
+mod constant;
+mod eval;
+mod faults;
+mod kinds;
 pub mod laws;
-pub mod leaves;
-pub mod like;
-pub mod logic;
-pub mod plan;
-pub mod truth;
+mod leaves;
+mod like;
+mod logic;
+mod plan;
+mod read_value;
+mod row_truth;
+mod typing;
+
+pub use checked::Checked;
+pub use checking::check;
+pub use faults::CheckError;
+pub use row_truth::truth;

@@ -1,8 +1,8 @@
 //! A clause with its names found and its constants read.
 use crate::constant::Constant;
 use crate::like::Piece;
-use pg_values::kind::Kind;
-use where_parser::expr::{CmpOp, IsTest};
+use pg_values::Kind;
+use where_parser::{CmpOp, IsTest};
 
 /// The tree of a clause, with places for names, values for constants, and the pieces of patterns.
 #[cycle(plan)]

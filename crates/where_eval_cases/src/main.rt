@@ -16,12 +16,8 @@ use cases::{Answers, answer_lines, columns_of, cut, number_of, row_of, truth_wor
 use shape_base::{BadValue, Columns, OutOfMemory, Row, Text, Tri};
 use std::alloc::Global;
 use std::io;
-use where_eval::check::check;
-use where_eval::checked::Checked;
-use where_eval::faults::CheckError;
-use where_eval::truth::truth;
-use where_parser::expr::Expr;
-use where_parser::parse::{ParseError, parse};
+use where_eval::{CheckError, Checked, check, truth};
+use where_parser::{Expr, ParseError, parse};
 
 fn truth_line(alloc: Global, truth: Result<Tri, BadValue>) -> Result<String, OutOfMemory> {
     match truth {

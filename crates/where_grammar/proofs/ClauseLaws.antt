@@ -1,8 +1,7 @@
 -- The laws of clauses as texts.
 use Rattle.std.proofs.Common.{◌≡◌, ℕ, List, sym, ap, subst}
 use Rattle.where_lexer.specs.Texts.{AreTokens}
-use Rattle.where_lexer.proofs.TextLaws.{text_again}
-use Rattle.where_lexer.proofs.AllTokens.{scanned_tokens}
+use Rattle.where_lexer.proofs.Lemmas.{text_again, scanned_tokens}
 use Rattle.where_grammar.specs.Tree.{Tree}
 use Rattle.where_grammar.specs.Printing.{canonical}
 use Rattle.where_grammar.specs.Meaning.{IsClause}

@@ -6,8 +6,7 @@ use Rattle.where_grammar.specs.Tree.{Tree}
 use Rattle.ll_rules.specs.Rules.{Fault, Syntax, TooDeep, Answer, Read, Refuse, then, end_read}
 use Rattle.where_grammar.specs.Grammar.{or, not, clause}
 use Rattle.where_grammar.specs.Meaning.{IsClause, CanGoOn, IsStuck, IsRight, clause_of, Exact, Whole}
-use Rattle.ll_rules.proofs.RuleLaws.{GoodRead, GoodRefuse, Good, Alike}
-use Rattle.ll_rules.proofs.UnderLaws.{Under}
+use Rattle.ll_rules.proofs.Lemmas.{GoodRead, GoodRefuse, Good, Alike, Under}
 use Rattle.where_grammar.proofs.GrammarLaws.{clause_lawful}
 use Rattle.where_grammar.proofs.GrammarUnder.{clause_over}
 

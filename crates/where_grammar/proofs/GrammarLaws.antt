@@ -8,8 +8,7 @@ use Rattle.where_lexer.specs.declared.token.Token.TheVariants as tokens
 use Rattle.where_grammar.specs.Tree.{Tree, NotOf, IsOf, DistinctOf, Compared, WithinOf, BetweenOf, LikeOf, NullOf, trees}
 use Rattle.ll_rules.specs.Rules.{Rule, leads, nothing, sequence, choice, barred, is_some_of, one, end, more, more_spells}
 use Rattle.where_grammar.specs.Grammar.{an_open, a_close, a_comma, a_minus, an_and, an_or, a_not, an_is, a_distinct, a_from, an_in, a_between, a_like, an_op, a_test, a_pattern, a_negative, a_leaf, has, either, Without, Whatever, begins_range, goes_cmp, goes_is, goes_and, goes_or, after, plain, group, maybe_not, within, between, like, predicate, range_tail, range, cmp_tail, cmp, is_right, is_tail, is, is_over, all_of, any_of, and, or, not_least, not_inside, not, clause}
-use Rattle.ll_rules.proofs.RuleLaws.{Lawful, leads_front, sequence_lawful, nothing_lawful, choice_lawful, barred_lawful}
-use Rattle.ll_rules.proofs.MoreLaws.{one_lawful, end_lawful, more_lawful}
+use Rattle.ll_rules.proofs.Lemmas.{Lawful, leads_front, sequence_lawful, nothing_lawful, choice_lawful, barred_lawful, one_lawful, end_lawful, more_lawful}
 
 -- each text of the rule begins with a token that passes the test
 abbrev pub Begins : {A : Type 0} → Rule Token A → (Token → Bool) → Type 0

@@ -7,9 +7,7 @@ use Rattle.where_lexer.specs.declared.token.Token.TheVariants as tokens
 use Rattle.where_grammar.specs.Tree.{Tree, NotOf, IsOf, DistinctOf, Compared, WithinOf, BetweenOf, LikeOf, trees}
 use Rattle.ll_rules.specs.Rules.{Syntax, Answer, Refuse, then, one_read, Rule, nothing, sequence, choice, barred, one, end, more}
 use Rattle.where_grammar.specs.Grammar.{an_open, a_close, a_comma, a_minus, an_and, an_or, a_not, an_is, a_distinct, a_from, an_in, a_between, a_like, an_op, a_test, a_pattern, a_negative, a_leaf, has, either, Without, Whatever, begins_range, goes_cmp, goes_is, goes_and, after, plain, group, maybe_not, within, between, like, predicate, range_tail, range, cmp_tail, cmp, is_right, is_tail, is_over, all_of, any_of, and, or, not, clause}
-use Rattle.ll_rules.proofs.RuleLaws.{Lawful}
-use Rattle.ll_rules.proofs.MoreLaws.{one_lawful, more_lawful}
-use Rattle.ll_rules.proofs.UnderLaws.{Under, then_under, choice_under, barred_under, one_under, end_under, more_under}
+use Rattle.ll_rules.proofs.Lemmas.{Lawful, one_lawful, more_lawful, Under, then_under, choice_under, barred_under, one_under, end_under, more_under}
 use Rattle.where_grammar.proofs.GrammarLaws.{Always, Apart, without_both, compared, distinct, tested, asked, negation, atom_over, maybe_not_lawful, range_lawful, cmp_lawful, members_lawful, and_is, or_and, atom_over_lawful, not_ends, not_lawful, or_not_lawful, least_atom_lawful}
 
 -- p has the larger limit

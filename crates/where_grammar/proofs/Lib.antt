@@ -8,3 +8,4 @@ pub mod ClauseLaws
 pub mod Cuts
 pub mod ToRules
 pub mod FromRules
+pub mod Lemmas

@@ -1,3 +1,4 @@
+//! The laws of the grammar, each the contract of a function with nothing to do.
 ghost use Rattle.where_grammar.specs.Again.{RoundTrip};
 ghost use Rattle.where_grammar.specs.Cases.{ByCases};
 ghost use Rattle.where_grammar.specs.Clause.{OneCanonicalText, OneTree, PrintedAgain};

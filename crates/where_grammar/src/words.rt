@@ -1,3 +1,5 @@
+//! Words of clauses that trees name.
+
 /// What IS asks of its left side.
 #[derive(Clone, Copy, Debug, Drop)]
 pub enum IsTest {

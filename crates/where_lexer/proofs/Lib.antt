@@ -6,3 +6,4 @@ pub mod Scanning
 pub mod TextLaws
 pub mod Writes
 pub mod AllTokens
+pub mod Lemmas

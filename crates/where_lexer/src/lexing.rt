@@ -1,3 +1,4 @@
+//! From a text to its tokens.
 ghost use Rattle.std.specs.Prelude.{◌≡◌, ◌≤◌, ◌<◌, ◌++◌, ◌∷◌, List, [], length, take, drop, IfOk, MatchOption, Option, Some, ℕ, true, false};
 ghost use Rattle.std.specs.Str.{IsUtf8, str_to_ascii_lowercase};
 ghost use Rattle.std.specs.Char.{is_ascii_digit};

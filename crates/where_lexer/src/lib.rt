@@ -1,8 +1,12 @@
-// The tokens of where-clauses: from a text to its tokens with their places, and from tokens to their canonical text.
+//! The tokens of where-clauses: from a text to its tokens with their places, and from tokens to their canonical text.
 #![tactic(auto)]
 
-pub mod class;
+mod class;
 pub mod laws;
-pub mod lexing;
-pub mod token;
-pub mod writing;
+mod lexing;
+mod token;
+mod writing;
+
+pub use lexing::{Lexed, lex};
+pub use token::{CmpOp, Token};
+pub use writing::Writer;

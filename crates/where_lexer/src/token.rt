@@ -1,3 +1,4 @@
+//! Tokens.
 use shape_base::Text;
 
 /// How two sides are compared.

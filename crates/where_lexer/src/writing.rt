@@ -1,3 +1,4 @@
+//! From tokens to their canonical text.
 ghost use Rattle.std.specs.Prelude.{◌≡◌, ◌<◌, ◌++◌, ◌∷◌, [], List, cond, OnOk};
 ghost use Rattle.std.specs.Str.{IsUtf8};
 ghost use Rattle.where_lexer.specs.declared.token.Token.{Token};

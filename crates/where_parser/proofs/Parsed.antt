@@ -5,15 +5,13 @@ use Rattle.std.proofs.lemmas.Bool.Decides.{nat_tests}
 use Rattle.where_lexer.specs.declared.token.Token.{Token}
 use Rattle.where_lexer.specs.Lexing.{scanned}
 use Rattle.where_parser.specs.declared.expr.Expr as exprs
-use Rattle.where_parser.specs.declared.parse.ParseError.{ParseError}
-use Rattle.where_parser.specs.declared.parse.ParseError.TheVariants as errors
+use Rattle.where_parser.specs.declared.parsing.ParseError.{ParseError}
+use Rattle.where_parser.specs.declared.parsing.ParseError.TheVariants as errors
 use Rattle.ll_rules.specs.Rules.{Answer, Read, Refuse, Syntax, TooDeep}
 use Rattle.where_grammar.specs.Tree.{Tree}
 use Rattle.where_grammar.specs.Clause.{tokens_in, IsClauseText}
 use Rattle.where_grammar.specs.Meaning.{IsRight, clause_of}
-use Rattle.where_grammar.proofs.Exactly.{exact, whole}
-use Rattle.where_grammar.proofs.Cuts.{one_answer}
-use Rattle.where_grammar.proofs.ClauseLaws.{one_tree}
+use Rattle.where_grammar.proofs.Lemmas.{exact, whole, one_answer, one_tree}
 use Rattle.where_parser.specs.View.{tree_of}
 use Rattle.where_parser.specs.Whole.{place_of, IsSyntaxAt, IsDeepAt, IsTreeOf, Faulty, answer_of, Gave}
 
@@ -103,6 +101,28 @@ pub deep_answer : (text : List ℕ) (place : ℕ) → IsDeepAt text place → an
 deep_answer text place f = ap (answer_of text) (one_answer 64 (tokens_in text) (Refuse TooDeep f.0) f.1.fault) ∙ ap (λ p. failed p) (sym f.1.at) where
   failed : ℕ → Answers
   failed p = bad (errors.TooDeep p)
+
+-- what the answer to each text says
+
+pub tree_said : (text : List ℕ) (tree : Tree) → answer_of text (clause_of 64 (tokens_in text)) ≡ good tree → IsTreeOf text tree
+tree_said text tree e = ok_tree text (clause_of 64 (tokens_in text)) tree refl (exact 64 (tokens_in text)) e
+
+pub syntax_said : (text : List ℕ) (place : ℕ) → answer_of text (clause_of 64 (tokens_in text)) ≡ bad (errors.Syntax place) → IsSyntaxAt text place
+syntax_said text place e = syntax_at text (clause_of 64 (tokens_in text)) place (exact 64 (tokens_in text)) e
+
+pub deep_said : (text : List ℕ) (place : ℕ) → answer_of text (clause_of 64 (tokens_in text)) ≡ bad (errors.TooDeep place) → IsDeepAt text place
+deep_said text place e = deep_at text (clause_of 64 (tokens_in text)) place (exact 64 (tokens_in text)) e
+
+pub memory_not_said : (text : List ℕ) → answer_of text (clause_of 64 (tokens_in text)) ≡ bad errors.OutOfMemory → ⊥
+memory_not_said text e = by (clause_of 64 (tokens_in text)) e where
+  whole_or_stray : (b : Bool) (tree : Tree) (place : ℕ) → cond b (good tree) (bad (errors.Syntax place)) ≡ bad errors.OutOfMemory → ⊥
+  whole_or_stray true tree place k = cc
+  whole_or_stray false tree place k = cc
+
+  by : (x : Answer Token Tree) → answer_of text x ≡ bad errors.OutOfMemory → ⊥
+  by (Read tree rest) k = whole_or_stray (nat_eq (scanned text).left 0) tree (Stray text) k
+  by (Refuse Syntax rest) k = cc
+  by (Refuse TooDeep rest) k = cc
 
 -- what was returned
 

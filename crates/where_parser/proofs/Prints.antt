@@ -2,7 +2,7 @@
 use Rattle.std.proofs.Common.{◌≡◌, ℕ, ◌++◌, sym, ap, ◌∙◌}
 use Rattle.where_lexer.specs.declared.token.Token.{Token}
 use Rattle.where_lexer.specs.Writing.{Written, put, with_tokens}
-use Rattle.where_lexer.proofs.Writes.{written_append, written_first}
+use Rattle.where_lexer.proofs.Lemmas.{written_append, written_first}
 use Rattle.where_grammar.specs.Tree.{Tree, Trees, TreeAnd}
 use Rattle.where_grammar.specs.Printing.{part, others}
 

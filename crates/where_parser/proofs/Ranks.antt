@@ -11,9 +11,8 @@ use Rattle.where_grammar.specs.Tree.{Tree, NotOf}
 use Rattle.ll_rules.specs.Rules.{Fault, Syntax, TooDeep, one_read, barred, Answer, Read, Refuse, then, leads, more}
 use Rattle.where_grammar.specs.Grammar.{atom, a_not, is_over, an_open, an_and, has, not, plain, goes_is, all_of}
 use Rattle.where_parser.specs.Parts.{member, joint, joint_ends, IsJoined, read_member, read_others, read_not, read_is, with_front}
-use Rattle.ll_rules.proofs.RuleLaws.{Lawful}
-use Rattle.ll_rules.proofs.MoreLaws.{more_step, more_stop, read_shorter, tail}
-use Rattle.where_grammar.proofs.GrammarLaws.{negation, atom_over, least_atom_lawful, atom_over_lawful, not_lawful, not_ends, members_lawful, and_is}
+use Rattle.ll_rules.proofs.Lemmas.{Lawful, more_step, more_stop, read_shorter, tail}
+use Rattle.where_grammar.proofs.Lemmas.{negation, atom_over, least_atom_lawful, atom_over_lawful, not_lawful, not_ends, members_lawful, and_is}
 
 abbrev pub rank : Joint → ℕ
 rank joints.Comma = 2

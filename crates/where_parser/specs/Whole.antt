@@ -1,8 +1,8 @@
 -- What parsing a text must answer.
 use Rattle.std.specs.Prelude.{◌≡◌, ◌<◌, ◌-◌, ℕ, List, length, map, nat_eq, cond, slice_index_or, Result, Ok, Err, ◌⊎◌}
 use Rattle.where_parser.specs.declared.expr.Expr as exprs
-use Rattle.where_parser.specs.declared.parse.ParseError.{ParseError}
-use Rattle.where_parser.specs.declared.parse.ParseError.TheVariants as errors
+use Rattle.where_parser.specs.declared.parsing.ParseError.{ParseError}
+use Rattle.where_parser.specs.declared.parsing.ParseError.TheVariants as errors
 use Rattle.where_lexer.specs.declared.token.Token.{Token}
 use Rattle.where_lexer.specs.Lexing.{scanned}
 use Rattle.ll_rules.specs.Rules.{Answer, Read, Refuse, Syntax, TooDeep}

@@ -1,3 +1,4 @@
+//! Nodes of trees, put together from their parts.
 ghost use Rattle.std.specs.Prelude.{◌≡◌, List, [], ◌∷◌, map, IfOk};
 ghost use Rattle.where_grammar.specs.Tree.{trees, WithinOf, BetweenOf, Compared, DistinctOf, IsOf};
 ghost use Rattle.where_grammar.specs.Grammar.{any_of, all_of};
@@ -7,7 +8,7 @@ use super::expr::{Expr, Exprs};
 use shape_base::OutOfMemory;
 use std::alloc::Global;
 use where_grammar::words::IsTest;
-use where_lexer::token::CmpOp;
+use where_lexer::CmpOp;
 
 /// The trees as a chain, in their order.
 pub fn chain(alloc: Global, mut members: Vec<Expr>) -> Result<Exprs, OutOfMemory>

@@ -1,6 +1,7 @@
+//! Trees of clauses.
 use shape_base::Text;
 pub use where_grammar::words::IsTest;
-pub use where_lexer::token::CmpOp;
+pub use where_lexer::CmpOp;
 
 /// The tree of a clause. A list has two members or more, and that of IN one or more; the flag `not` is the NOT of
 /// IS NOT, NOT IN, NOT BETWEEN and NOT LIKE.

@@ -1,10 +1,14 @@
-// Where-clauses: from a clause's text to its tree, and from a tree to its canonical text.
+//! Where-clauses: from a clause's text to its tree, and from a tree to its canonical text.
 #![tactic(auto)]
 
-pub mod chain;
-pub mod expr;
-pub mod parse;
-pub mod printing;
-pub mod reading;
-pub mod stop;
-pub mod word;
+mod chain;
+mod expr;
+mod parsing;
+mod printing;
+mod reading;
+mod stop;
+mod word;
+
+pub use expr::{CmpOp, Expr, Exprs, IsTest};
+pub use parsing::{NESTING, ParseError, parse};
+pub use printing::print;

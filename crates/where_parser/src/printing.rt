@@ -1,4 +1,6 @@
-#![tactic(auto, using(where_lexer::proofs::Writes::written_append, where_lexer::proofs::Writes::written_first, where_lexer::proofs::Writes::written_none))]
+//! From a tree to its canonical text.
+
+#![tactic(auto, using(where_lexer::proofs::Lemmas::written_append, where_lexer::proofs::Lemmas::written_first, where_lexer::proofs::Lemmas::written_none))]
 
 ghost use Rattle.std.specs.Prelude.{◌≡◌, ◌∷◌, [], ◌++◌, IfOk, OnOk};
 ghost use Rattle.where_lexer.specs.declared.token.Token.TheVariants as tokens;
@@ -11,8 +13,7 @@ use super::expr::{Expr, Exprs};
 use shape_base::{OutOfMemory, Text};
 use std::alloc::Global;
 use where_grammar::words::IsTest;
-use where_lexer::token::{CmpOp, Token};
-use where_lexer::writing::Writer;
+use where_lexer::{CmpOp, Token, Writer};
 
 /// How tightly the outermost word of the tree binds.
 fn level(expr: &Expr) -> u8

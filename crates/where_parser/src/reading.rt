@@ -1,3 +1,4 @@
+//! From tokens to their tree.
 ghost use Rattle.std.specs.Prelude.{◌≡◌, ◌∷◌, [], List, IfNone, IfSome, MatchOption, true, false, map, IfOk};
 ghost use Rattle.ll_rules.specs.Rules.{leads, one_read, Read, Refuse, Syntax};
 ghost use Rattle.where_grammar.specs.Grammar.{has, begins_range, an_op, a_test, a_pattern, maybe_not, Whatever};
@@ -13,7 +14,7 @@ use super::word::{Joint, Word};
 use shape_base::{Duplicate, Text};
 use std::alloc::Global;
 use where_grammar::words::IsTest;
-use where_lexer::token::{CmpOp, Token};
+use where_lexer::{CmpOp, Token};
 
 const SMALLEST: u64 = 1 << 63;
 

@@ -1,9 +1,10 @@
+//! Why reading stops.
 ghost use Rattle.std.specs.Prelude.{◌≡◌};
 ghost use Rattle.where_parser.specs.declared.stop.Stop.TheVariants.{Memory};
 
 use shape_base::OutOfMemory;
 use std::alloc::{AllocError, AllocFailed};
-use where_lexer::token::Token;
+use where_lexer::Token;
 
 /// Why no part of a clause was read, with the tokens from the fault on.
 #[derive(Drop)]

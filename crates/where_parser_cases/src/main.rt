@@ -6,8 +6,7 @@ use cases::{Answers, answer_lines};
 use shape_base::{OutOfMemory, Text};
 use std::alloc::Global;
 use std::io;
-use where_parser::parse::{ParseError, parse};
-use where_parser::printing::print;
+use where_parser::{ParseError, parse, print};
 
 #[derive(Drop)]
 struct ClauseCases;

@@ -7,8 +7,7 @@ use Rattle.where_lexer.specs.declared.token.Token.{Token}
 use Rattle.where_lexer.specs.declared.token.Token.TheVariants as tokens
 use Rattle.where_lexer.specs.Lexing.{begins_word, goes_word, is_space, run, past, word, number, unquoted, named, texted, sign, token_at, scan_with, scan, scanned}
 use Rattle.where_lexer.specs.Texts.{doubled}
-use Rattle.where_lexer.proofs.Quotes.{run_past}
-use Rattle.where_lexer.proofs.TextLaws.{run_all, past_all, is_true, is_false, pair_at, Other, unquoted_doubled}
+use Rattle.where_lexer.proofs.Lemmas.{run_past, run_all, past_all, is_true, is_false, pair_at, Other, unquoted_doubled}
 use Rattle.where_tokens.specs.TokenTexts.{NotFirst, is_byte, Stands, a_word, an_integer, a_name, a_string, IsAt, found, TokenStands, ScanSteps}
 use Rattle.where_tokens.specs.TokenTexts as texts
 use Rattle.where_tokens.proofs.Found.{Sound, token_sound}

@@ -7,9 +7,7 @@ use Rattle.where_lexer.specs.declared.token.Token.{Token}
 use Rattle.where_lexer.specs.declared.token.Token.TheVariants as tokens
 use Rattle.where_lexer.specs.Lexing.{begins_word, goes_word, run, past, word, number, with_byte, unquoted, name_before, named, texted, less, greater, differs, sign, token_at}
 use Rattle.where_lexer.specs.Texts.{doubled}
-use Rattle.where_lexer.proofs.Quotes.{run_past}
-use Rattle.where_lexer.proofs.Lower.{run_passes}
-use Rattle.where_lexer.proofs.TextLaws.{same_byte}
+use Rattle.where_lexer.proofs.Lemmas.{run_past, run_passes, same_byte}
 use Rattle.where_tokens.specs.TokenTexts.{NotFirst, is_byte, Stands, a_word, an_integer, a_name, a_string, IsAt}
 use Rattle.where_tokens.specs.TokenTexts as texts
 

@@ -1,3 +1,4 @@
+//! The laws of the relation, each the contract of a function with nothing to do.
 ghost use Rattle.where_tokens.specs.TokenTexts.{ScanSteps, TokenStands};
 
 /// The token that is found at a place is the one that stands there, and no other does.

@@ -1,5 +1,5 @@
 use Rattle.std.proofs.Common.{◌≡◌, take, false}
-use Rattle.shape_def.specs.Indexed.{is_in}
+use Rattle.shape_def.specs.Chosen.{is_in}
 use Rattle.shape_def.specs.Definition.{leaves_out}
 use Rattle.shape_def.proofs.choosing.leaves_out.Given as goal
 

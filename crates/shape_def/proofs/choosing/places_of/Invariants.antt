@@ -1,5 +1,5 @@
 use Rattle.std.proofs.Common.{◌≡◌, ◌++◌, drop}
-use Rattle.shape_def.specs.Indexed.{is_in}
+use Rattle.shape_def.specs.Chosen.{is_in}
 use Rattle.shape_def.specs.Definition.{places_from}
 use Rattle.shape_def.proofs.choosing.places_of.Given as goal
 

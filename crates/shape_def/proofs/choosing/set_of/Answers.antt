@@ -1,6 +1,6 @@
 use Rattle.std.proofs.Common.{◌∙◌, sym, ap}
 use Rattle.shape_def.specs.Definition.{is_chosen}
-use Rattle.shape_def.proofs.Indexing.{set_chooses}
+use Rattle.shape_def.proofs.Chosen.{set_chooses}
 use Rattle.shape_def.proofs.choosing.set_of.Goals as goal
 
 pub returns-in_ok-name_set-in-Some : goal.returns-in_ok-name_set-in-Some

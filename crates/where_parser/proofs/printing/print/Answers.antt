@@ -1,7 +1,7 @@
 use Rattle.std.proofs.Common.{ap, ◌∙◌}
 use Rattle.where_lexer.specs.Writing.{with_tokens}
 use Rattle.where_grammar.specs.Printing.{canonical}
-use Rattle.where_grammar.proofs.ClauseLaws.{is_again}
+use Rattle.where_grammar.proofs.Lemmas.{is_again}
 use Rattle.where_parser.specs.View.{tree_of}
 use Rattle.where_parser.proofs.printing.print.Goals as goal
 

@@ -1,6 +1,6 @@
 use Rattle.std.proofs.Common.{ap, ◌∙◌}
 use Rattle.ll_rules.specs.Rules.{Read}
-use Rattle.where_grammar.proofs.Exactly.{clause_rest}
+use Rattle.where_grammar.proofs.Lemmas.{clause_rest}
 use Rattle.where_parser.specs.View.{tree_of}
 use Rattle.where_parser.proofs.reading.read.Goals as goal
 

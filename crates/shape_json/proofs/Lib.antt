@@ -1,0 +1,12 @@
+pub mod Digits
+pub mod Endings
+pub mod Histories
+pub mod LawProofs
+pub mod Offsets
+pub mod Once
+pub mod Pages
+pub mod ReadBack
+pub mod Reading
+pub mod Sizes
+pub mod Texts
+pub mod Writing
