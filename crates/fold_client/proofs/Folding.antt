@@ -1,19 +1,17 @@
 -- Rows under one entry and its undoing, and under many.
-use Rattle.std.proofs.Common.{◌≡◌, ℕ, ◌+◌, ◌≤◌, Bool, true, false, cond, List, [], ◌∷◌, ◌++◌, length, take, drop, map, refl, sym, ◌∙◌, ap, subst, arith, append_assoc, Option, None, Some, is_some, IfSome}
-use Rattle.std.specs.Prelude.{slice_get}
+use Rattle.std.proofs.Common.{◌≡◌, ℕ, ◌+◌, Bool, true, false, cond, List, [], ◌∷◌, ◌++◌, drop, map, refl, sym, ◌∙◌, ap, subst, append_assoc, Option, None, Some, is_some, IfSome}
 use Rattle.std.specs.Bool.{if◌then◌else◌}
 use Rattle.std.specs.Option.{option_and_then, option_map}
 use Rattle.std.specs.FinMap as fin
 use Rattle.std.specs.Cmp.Lexicographic.{nat_list_cmp_total}
 use Rattle.shape_base.specs.declared.entry.Cell.{Cell}
 use Rattle.shape_base.specs.declared.entry.Entry.{Entry}
-use Rattle.shape_base.specs.declared.entry.Op.{Op}
 use Rattle.shape_base.specs.declared.entry.Op.TheVariants.{Insert, Update, Delete}
 use Rattle.shape_base.specs.declared.entry.KeyedRow.{KeyedRow}
 use Rattle.shape_base.specs.Shape.{Keyed, Map}
 use Rattle.shape_base.specs.Tables.{same_text}
 use Rattle.shape_base.specs.Log.{value_in, replaced, fold_op, fold_from, fault_or, first_fault}
-use Rattle.shape_base.proofs.Lemmas.{exact, tied, same_from_tied, tied_self, insert_twice, remove_inserted, fold_from-append}
+use Rattle.shape_base.proofs.Lemmas.{exact, tied, same_from_tied, insert_twice, remove_inserted}
 use Rattle.fold_client.specs.declared.rows.Undo.{Undo}
 use Rattle.fold_client.specs.Rows.{keyed_row, restored, undone, Undoes}
 

@@ -1,5 +1,5 @@
 -- The changes of a commit, one by one.
-use Rattle.std.proofs.Common.{◌≡◌, ℕ, zero, suc, ◌+◌, ◌<◌, ◌≤◌, Bool, true, false, not, ◌&&◌, ◌||◌, ◌==◌, List, [], ◌∷◌, ◌++◌, length, map, drop, get_or, refl, sym, ◌∙◌, ap, subst, arith, append_assoc, Option, None, Some, is_none}
+use Rattle.std.proofs.Common.{◌≡◌, ℕ, zero, suc, ◌+◌, ◌<◌, ◌≤◌, Bool, true, false, not, ◌||◌, ◌==◌, List, [], ◌∷◌, ◌++◌, length, drop, get_or, refl, sym, ◌∙◌, ap, subst, arith, append_assoc, Option, None, Some, is_none}
 use Rattle.std.specs.Prelude.{slice_get, slice_index_or, MatchOption, MatchBool, Result, Ok, Err, IfOk}
 use Rattle.std.specs.Bool.{if◌then◌else◌}
 use Rattle.std.specs.List.{list_any, flat_map, AllByRecursion}
@@ -9,7 +9,6 @@ use Rattle.std.proofs.lemmas.Grind.{flat_map-append}
 use Rattle.std.proofs.Math.ListN.{drop_of_length-le}
 use Rattle.std.proofs.lemmas.List.Folds.{list_any-append}
 use Rattle.std.proofs.lemmas.Bool.{eqb-true, eq-eqb, false_from_ne_true, and_parts}
-use Rattle.shape_base.specs.declared.value.Value.{Value}
 use Rattle.shape_base.specs.declared.value.Value.TheVariants.{Null}
 use Rattle.shape_base.specs.declared.change.Change.{Change}
 use Rattle.shape_base.specs.declared.change.ChangeKind.{ChangeKind}
@@ -23,7 +22,7 @@ use Rattle.shape_base.specs.Shape.{Knows, IsLeast, emit, stops, is_bad, is_trunc
 use Rattle.shape_base.proofs.Lemmas.{Decides-same_def}
 use Rattle.shape_base.specs.Transactions.{IsAsWide, IsUnder}
 use Rattle.change_map.specs.Keys.{is_null_key}
-use Rattle.change_map.specs.Emitting.{IsWhole, IsBadAt, IsThereAndBadAt, IsChangeBadAt}
+use Rattle.change_map.specs.Emitting.{IsWhole, IsThereAndBadAt, IsChangeBadAt}
 use Rattle.shape_entries.specs.Commit.{own_at}
 
 -- ---- rows that cannot be read

@@ -1,7 +1,7 @@
 -- The rows of a snapshot, one by one.
-use Rattle.std.proofs.Common.{◌≡◌, ℕ, suc, ◌+◌, ◌*◌, Bool, true, false, cond, not, ◌&&◌, ◌||◌, ◌==◌, List, [], ◌∷◌, ◌++◌, length, map, filter, refl, sym, ◌∙◌, ap, subst, arith, append_assoc, Option, None, Some, is_none, is_some, IfSome}
+use Rattle.std.proofs.Common.{◌≡◌, ℕ, suc, ◌+◌, ◌*◌, Bool, true, false, cond, not, ◌&&◌, ◌||◌, ◌==◌, List, [], ◌∷◌, ◌++◌, length, map, filter, refl, sym, ◌∙◌, ap, subst, arith, append_assoc, Option, None, Some, is_none, IfSome}
 use Rattle.std.specs.Bool.{if◌then◌else◌}
-use Rattle.std.specs.List.{list_all, list_any}
+use Rattle.std.specs.List.{list_all}
 use Rattle.std.specs.Option.{option_to_list}
 use Rattle.std.specs.BTreeSet as sorted
 use Rattle.std.specs.BTreeSet.{BTreeSet}
@@ -12,15 +12,14 @@ use Rattle.std.proofs.lemmas.List.{append-nil, length-append}
 use Rattle.std.proofs.lemmas.Bool.{eqb-true, and_parts}
 use Rattle.shape_base.specs.declared.offset.Offset.TheVariants.{At}
 use Rattle.shape_base.specs.declared.entry.Entry.{Entry}
-use Rattle.shape_base.specs.declared.change.ChangeKind.{ChangeKind}
 use Rattle.shape_base.specs.declared.change.ChangeKind.TheVariants.{Insert}
 use Rattle.shape_base.specs.Tables.{Values, Table, same_text, lacks_key}
-use Rattle.shape_base.specs.Shape.{Knows, Keyed, key_text, keyed, picks, shown, insert_at, emit, is_bad, pick, entries_of}
+use Rattle.shape_base.specs.Shape.{Knows, Keyed, key_text, keyed, picks, shown, insert_at, emit, entries_of}
 use Rattle.shape_base.specs.Log.{start_from}
 use Rattle.shape_base.proofs.Lemmas.{text_cmp, tied, same_from_tied, tied_self, Decides-same_text}
 use Rattle.change_map.specs.declared.emitting.Emitted.{Emitted}
 use Rattle.change_map.specs.Emitting.{in_order, own}
-use Rattle.shape_entries.specs.Start.{is_good_row, are_new, are_good_after, are_good}
+use Rattle.shape_entries.specs.Start.{is_good_row, are_new, are_good_after}
 
 -- ---- which keys were seen
 

@@ -1,4 +1,4 @@
-use Rattle.std.proofs.Common.{◌≡◌, ◌∙◌, ℕ, Option, Some, None, List, [], sym, ap, not}
+use Rattle.std.proofs.Common.{◌≡◌, ◌∙◌, sym, ap, not}
 use Rattle.std.specs.Option.{option_copied}
 use Rattle.shape_base.specs.declared.definition.TableDef.{TableDef}
 use Rattle.shape_entries.specs.Commit.{own_at}

@@ -1,4 +1,4 @@
-use Rattle.std.proofs.Common.{◌≡◌, ◌∙◌, true, not, sym, ap, arith}
+use Rattle.std.proofs.Common.{◌∙◌, not, sym, ap, arith}
 use Rattle.shape_entries.proofs.Changes.{left_more}
 use Rattle.shape_entries.proofs.commit.commit_entries.Goals as goal
 

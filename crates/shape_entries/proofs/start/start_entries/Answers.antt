@@ -1,6 +1,5 @@
-use Rattle.std.proofs.Common.{◌≡◌, ◌∙◌, ◌++◌, ◌∷◌, ◌+◌, List, length, true, false, is_some, sym, ap}
+use Rattle.std.proofs.Common.{◌≡◌, ◌∙◌, ◌++◌, ◌+◌, length, true, false, is_some, sym, ap}
 use Rattle.shape_base.specs.Tables.{Table}
-use Rattle.shape_base.specs.declared.entry.Entry.{Entry}
 use Rattle.shape_base.specs.Shape.{shown, key_text}
 use Rattle.shape_base.specs.Log.{start_from}
 use Rattle.shape_entries.specs.Start.{is_good_row, are_good_after}

@@ -1,10 +1,10 @@
-use Rattle.std.proofs.Common.{◌≡◌, ◌+◌, ◌∷◌, ◌∙◌, List, drop, subst, sym, ap, arith, Option, Some}
+use Rattle.std.proofs.Common.{◌≡◌, ◌+◌, ◌∷◌, ◌∙◌, List, drop, subst, sym, ap, Option}
 use Rattle.std.proofs.lemmas.List.{drop_more}
 use Rattle.shape_base.specs.Log.{fold_op}
 use Rattle.shape_base.specs.declared.entry.Entry.{Entry}
 use Rattle.fold_client.specs.declared.rows.Undo.{Undo}
 use Rattle.fold_client.specs.Rows.{Undoes}
-use Rattle.fold_client.proofs.Folding.{Folds, folds_more, folds_not}
+use Rattle.fold_client.proofs.Folding.{Folds, folds_more}
 use Rattle.fold_client.proofs.rows.FoldedRows.fold.Goals as goal
 
 pub loop-entry-preserved : goal.loop-entry-preserved

@@ -1,4 +1,4 @@
-use Rattle.std.proofs.Common.{◌∙◌, ◌++◌, List, sym, ap, map, append_assoc}
+use Rattle.std.proofs.Common.{◌∙◌, ◌++◌, List, sym, ap, map}
 use Rattle.std.proofs.lemmas.List.{append-nil}
 use Rattle.std.specs.FinMap as fin
 use Rattle.std.specs.BTreeMap.{IsOrdered}
