@@ -106,11 +106,6 @@ impl FoldedRows {
         }
     }
 
-    /// How many rows there are.
-    pub fn len(&self) -> u64 {
-        self.rows.len() as u64
-    }
-
     /// Puts cells under a key. It gives what stood there.
     fn put(&mut self, key: &Text, cells: Cells) -> Result<Option<Cells>, OutOfMemory>
         ensures { IfOk result (λ before. (before ≡ fin.get self.old key.now) × (self.new ≡ fin.insert self.old key.now cells)) }
