@@ -1,0 +1,241 @@
+//! Rows by their keys, under the entries of a log.
+ghost use Rattle.std.specs.Prelude.{◌≡◌, List, unwrap_or, true, false, Option, Some, None, map, IfOk, OnOk, IsErrOf, if◌then◌else◌};
+ghost use Rattle.std.specs.FinMap as fin;
+ghost use Rattle.shape_base.specs.declared.entry.Cell.{Cell};
+ghost use Rattle.shape_base.specs.Log.{replaced, value_in, fold_op, fold_from, first_fault};
+ghost use Rattle.fold_client.specs.Rows.{keyed_row, restored, undone, IsFirstFault, Undoes};
+
+use shape_base::{
+    Cell, Cells, Duplicate, Entry, KeyedRow, KeyedRows, Offset, Op, OutOfMemory, Text,
+    are_same_texts,
+};
+use std::alloc::{AllocFailed, Global};
+use std::collections::BTreeMap;
+use std::marker::Model;
+
+/// Why entries were not folded.
+#[derive(Clone, Copy, Debug, PartialEq, Eq)]
+pub enum FoldError {
+    /// The entry at this offset inserts a key that is there, or updates or deletes one that is not.
+    BadFold { offset: Offset },
+    OutOfMemory,
+}
+
+impl From<OutOfMemory> for FoldError {
+    ghost use Rattle.std.specs.Prelude.{◌≡◌};
+    ghost use Rattle.fold_client.specs.declared.rows.FoldError.TheVariants as errors;
+
+    ghost from_gives = { λ _ e. e ≡ errors.OutOfMemory };
+
+    fn from(_error: OutOfMemory) -> FoldError {
+        FoldError::OutOfMemory
+    }
+}
+
+impl<T: Drop> From<AllocFailed<T>> for FoldError {
+    ghost use Rattle.std.specs.Prelude.{◌≡◌};
+    ghost use Rattle.fold_client.specs.declared.rows.FoldError.TheVariants as errors;
+
+    ghost from_gives = { λ _ e. e ≡ errors.OutOfMemory };
+
+    fn from(_error: AllocFailed<T>) -> FoldError {
+        FoldError::OutOfMemory
+    }
+}
+
+/// Rows by their key texts: a contract sees the map from each key text to the row's cells.
+#[derive(Drop)]
+pub struct FoldedRows {
+    alloc: Global,
+    rows: BTreeMap<Text, Cells>,
+}
+
+impl Model for FoldedRows {
+    ghost use Rattle.shape_base.specs.Shape.{Map};
+    ghost use Rattle.shape_base.specs.Maps.{map_in};
+    ghost use Rattle.fold_client.specs.Coded.{rows_code};
+
+    ghost Value = { Map };
+
+    ghost coded = { rows_code };
+
+    ghost view = { λ r. map_in r.rows };
+}
+
+/// What stood under a key before an entry was folded.
+#[derive(Drop)]
+struct Undo {
+    key: Text,
+    before: Option<Cells>,
+}
+
+/// The value of the first cell of that name, or the cell's own.
+fn replaced_cell(alloc: Global, cell: &Cell, news: &Cells) -> Result<Cell, OutOfMemory>
+    ensures { IfOk result (λ made. made ≡ record { name = cell.now.name; value = unwrap_or (value_in news.now cell.now.name) cell.now.value }) }
+{
+    for new in news.as_slice() {
+        if are_same_texts(&cell.name, &new.name) {
+            return Ok(Cell {
+                name: cell.name.copy(alloc)?,
+                value: new.value.copy(alloc)?,
+            });
+        }
+    }
+    cell.copy(alloc)
+}
+
+/// The cells, where those that are named have new values.
+fn replaced_cells(alloc: Global, cells: &Cells, news: &Cells) -> Result<Cells, OutOfMemory>
+    ensures { IfOk result (λ made. made ≡ replaced news.now cells.now) }
+{
+    let mut made = Cells::new(alloc);
+    for cell in cells.as_slice() {
+        made.push(replaced_cell(alloc, cell, news)?)?;
+    }
+    Ok(made)
+}
+
+impl FoldedRows {
+    /// No rows.
+    pub fn new(alloc: Global) -> FoldedRows
+        ensures { result ≡ fin.empty }
+    {
+        FoldedRows {
+            alloc,
+            rows: BTreeMap::new(alloc),
+        }
+    }
+
+    /// Puts cells under a key. It gives what stood there.
+    fn put(&mut self, key: &Text, cells: Cells) -> Result<Option<Cells>, OutOfMemory>
+        ensures { IfOk result (λ before. (before ≡ fin.get self.old key.now) × (self.new ≡ fin.insert self.old key.now cells)) }
+    {
+        let key = key.copy(self.alloc)?;
+        Ok(self.rows.insert(key, cells)?)
+    }
+
+    /// Takes out what stands under a key.
+    fn take_out(&mut self, key: &Text) -> Option<Cells>
+        ensures before { result ≡ fin.get self.old key.now }
+        ensures after { self.new ≡ fin.remove self.old key.now }
+    {
+        self.rows.remove(key)
+    }
+
+    /// Puts back what stood under a key.
+    fn restore(&mut self, undo: Undo) -> Result<(), OutOfMemory>
+        ensures { OnOk result (self.new ≡ restored undo.key undo.before self.old) }
+    {
+        let Undo { key, before } = undo;
+        match before {
+            Some(cells) => {
+                let _now = self.put(&key, cells)?;
+                Ok(())
+            }
+            None => {
+                let _now = self.take_out(&key);
+                Ok(())
+            }
+        }
+    }
+
+    fn insert(&mut self, entry: &Entry) -> Result<Option<Undo>, OutOfMemory>
+        ensures { IfOk result (Undoes self.old self.new (fold_op Op.Insert entry.now.key entry.now.cells self.old)) }
+    {
+        let cells = entry.cells.copy(self.alloc)?;
+        let key = entry.key.copy(self.alloc)?;
+        match self.put(&entry.key, cells)? {
+            None => Ok(Some(Undo { key, before: None })),
+            Some(before) => {
+                let _cells = self.put(&entry.key, before)?;
+                Ok(None)
+            }
+        }
+    }
+
+    fn update(&mut self, entry: &Entry) -> Result<Option<Undo>, OutOfMemory>
+        ensures { IfOk result (Undoes self.old self.new (fold_op Op.Update entry.now.key entry.now.cells self.old)) }
+    {
+        let key = entry.key.copy(self.alloc)?;
+        match self.take_out(&entry.key) {
+            None => Ok(None),
+            Some(before) => {
+                let cells = replaced_cells(self.alloc, &before, &entry.cells)?;
+                let _none = self.put(&entry.key, cells)?;
+                Ok(Some(Undo {
+                    key,
+                    before: Some(before),
+                }))
+            }
+        }
+    }
+
+    fn delete(&mut self, entry: &Entry) -> Result<Option<Undo>, OutOfMemory>
+        ensures { IfOk result (Undoes self.old self.new (fold_op Op.Delete entry.now.key entry.now.cells self.old)) }
+    {
+        let key = entry.key.copy(self.alloc)?;
+        match self.take_out(&entry.key) {
+            None => Ok(None),
+            Some(before) => Ok(Some(Undo {
+                key,
+                before: Some(before),
+            })),
+        }
+    }
+
+    /// Folds one entry, where it finds what it needs.
+    fn fold_one(&mut self, entry: &Entry) -> Result<Option<Undo>, OutOfMemory>
+        ensures { IfOk result (Undoes self.old self.new (fold_op entry.now.op entry.now.key entry.now.cells self.old)) }
+    {
+        match entry.op {
+            Op::Insert => self.insert(entry),
+            Op::Update => self.update(entry),
+            Op::Delete => self.delete(entry),
+        }
+    }
+
+    /// Undoes what was folded, the last first.
+    fn undo(&mut self, mut folded: Vec<Undo>) -> Result<(), OutOfMemory>
+        ensures { OnOk result (self.new ≡ undone folded.items self.old) }
+    {
+        while let Some(last) = folded.pop() {
+            self.restore(last)?;
+        }
+        Ok(())
+    }
+
+    /// Folds entries, each of which finds what it needs in the rows after those before it.
+    ///
+    /// `BadFold` exactly where one does not, with the offset of the first such entry; the rows are then as they were. After want of memory nothing is said of
+    /// the rows.
+    pub fn fold(&mut self, entries: &[Entry]) -> Result<(), FoldError>
+        ensures ok { OnOk result (fold_from entries.now self.old ≡ Some self.new) }
+        ensures bad { (offset : Offset) → IsErrOf result (FoldError.BadFold offset) → (self.new ≡ self.old) × IsFirstFault entries.now self.old offset }
+    {
+        let mut folded = Vec::new(self.alloc);
+        for entry in entries {
+            let Some(undo) = self.fold_one(entry)? else {
+                self.undo(folded)?;
+                return Err(FoldError::BadFold {
+                    offset: entry.offset,
+                });
+            };
+            folded.push(undo)?;
+        }
+        Ok(())
+    }
+
+    /// The rows in byte order of their keys, copied.
+    pub fn rows(&self) -> Result<KeyedRows, OutOfMemory>
+        ensures { IfOk result (λ rows. rows ≡ map keyed_row (fin.entries self.now)) }
+    {
+        let mut made = KeyedRows::new(self.alloc);
+        for (key, cells) in &self.rows {
+            made.push(KeyedRow {
+                key: key.copy(self.alloc)?,
+                cells: cells.copy(self.alloc)?,
+            })?;
+        }
+        Ok(made)
+    }
+}

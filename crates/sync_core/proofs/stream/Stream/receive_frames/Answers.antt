@@ -1,0 +1,39 @@
+use Rattle.std.proofs.Common.{sym, ◌++◌, subst}
+use Rattle.sync_core.specs.declared.stream.Brought.{Brought}
+use Rattle.sync_core.specs.Streaming.{AreWhole}
+use Rattle.sync_core.proofs.Streams.{frames_over, loop_starts, loop_ends, loop_over, loop_more, whole_more}
+use Rattle.sync_core.proofs.stream.Stream.receive_frames.Goals as goal
+
+pub returns-then-self-clause-receives : goal.returns-then-self-clause-receives
+returns-then-self-clause-receives c tables s st = frames_over tables s c.args.bytes.now c.args.self.now c.nothing-brought.result st c.if-self.true c.nothing-brought.ensures
+
+pub frames-init : goal.frames-init
+frames-init c = record {
+  mid = λ tables s st goes. loop_starts tables s c.args.bytes.now c.args.self.now c.feed.new.self c.nothing-brought.result st goes ((c.in_ok-feed.ensures).took s.fed (st.frames goes).0 (st.frames goes).1) c.nothing-brought.ensures;
+  goes = c.if-self.false;
+  first = c.if-self.false;
+  whole = subst (λ (b : Brought). AreWhole b.txs) (sym c.nothing-brought.ensures) tt;
+}
+
+pub returns-in_default-clause-receives : goal.returns-in_default-clause-receives
+returns-in_default-clause-receives c tables s st =
+    let inv = c.frames.invariant in
+    loop_ends tables s c.args.bytes.now c.args.self.now c.frames.self c.take_frame.new.self c.frames.brought c.in_ok-came.field-0 st inv.first (inv.mid tables s st inv.first)
+    (λ s' taken h t. (c.in_ok-came.ensures).takes tables s' (s.fed ++ c.args.bytes.now) taken h t) c.in_default.not-Some
+
+pub returns-then-self-2-clause-receives : goal.returns-then-self-2-clause-receives
+returns-then-self-2-clause-receives c tables s st =
+    let inv = c.frames.invariant in
+    loop_over tables s c.args.bytes.now c.args.self.now c.frames.self c.take_frame.new.self c.frames.brought c.add.new.self c.in_ok-came.field-0 c.in-Some.came st inv.first (inv.mid tables s st inv.first)
+    (λ s' taken h t. (c.in_ok-came.ensures).takes tables s' (s.fed ++ c.args.bytes.now) taken h t) c.in-Some.is c.if-self-2.true c.in_ok-add.ensures
+
+pub frames-preserved : goal.frames-preserved
+frames-preserved c =
+    let inv = c.frames.invariant in
+    record {
+      mid = λ tables s st goes. loop_more tables s c.args.bytes.now c.args.self.now c.frames.self c.take_frame.new.self c.frames.brought c.add.new.self c.in_ok-came.field-0 c.in-Some.came st goes (inv.mid tables s st goes)
+          (λ s' taken h t. (c.in_ok-came.ensures).takes tables s' (s.fed ++ c.args.bytes.now) taken h t) c.in-Some.is c.if-self-2.false c.in_ok-add.ensures;
+      goes = c.if-self-2.false;
+      first = inv.first;
+      whole = whole_more c.frames.brought c.add.new.self c.in-Some.came c.in_ok-came.field-0 c.in-Some.is inv.whole (c.in_ok-came.ensures).whole c.in_ok-add.ensures;
+    }
