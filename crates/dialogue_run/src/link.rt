@@ -1,8 +1,7 @@
 //! A link over TCP.
 ghost use Rattle.std.specs.Prelude.{◌≡◌, false, []};
 
-use shape_base::outside::{Failed, Sink, Source, Traffic};
-use shape_base::standard::{Input, Output};
+use shape_base::{Failed, Input, Output, Sink, Source, Traffic};
 use std::alloc::Global;
 use std::io;
 use std::io::BufReader;

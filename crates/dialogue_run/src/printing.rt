@@ -1,5 +1,5 @@
 //! Rows as `COPY .. TO STDOUT` prints them (PostgreSQL manual, COPY, Text Format).
-use shape_base::row::{Row, Value};
+use shape_base::{Row, Value};
 use std::io;
 use std::io::Write;
 

@@ -4,11 +4,7 @@ ghost use Rattle.pg_dialogue.specs.Queries.{IsShortLogin, IsShortName};
 
 use crate::printing::put_row;
 use pg_dialogue::{Dialogue, Login, SnapHead, WireError, describe, open_stream};
-use shape_base::memory::OutOfMemory;
-use shape_base::outside::{Sink, Source};
-use shape_base::seq::Seq;
-use shape_base::served::Served;
-use shape_base::text::Text;
+use shape_base::{OutOfMemory, Seq, Served, Sink, Source, Text};
 use std::alloc::Global;
 use std::io;
 use std::io::Write;

@@ -1,8 +1,7 @@
 //! A link in memory.
 ghost use Rattle.std.specs.Prelude.{◌≡◌, ◌<◌, true, take, drop};
 
-use shape_base::in_memory::{MemorySink, MemorySource};
-use shape_base::outside::{Failed, Sink, Source, Traffic};
+use shape_base::{Failed, MemorySink, MemorySource, Sink, Source, Traffic};
 
 /// A source and a sink in one.
 #[derive(Drop)]

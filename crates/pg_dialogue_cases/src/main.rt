@@ -13,41 +13,34 @@
 #![tactic(auto)]
 
 mod link;
-mod notation;
 mod runs;
 mod talks;
 
+use cases::{Answers, answer_lines, cut};
 use runs::{answer_line, cuts_line, faults_line};
-use shape_base::memory::OutOfMemory;
+use shape_base::OutOfMemory;
 use std::alloc::Global;
 use std::io;
 
-/// What stands before the first blank, and what behind it.
-fn cut(text: &str) -> (&str, &str) {
-    text.split_once(' ').unwrap_or((text, ""))
-}
+#[derive(Drop)]
+struct DialogueCases;
 
-/// What is printed for a line.
-fn answer(alloc: Global, line: &str) -> Result<String, OutOfMemory> {
-    let (word, rest) = cut(line);
-    let (talk, bytes) = cut(rest);
-    match word {
-        "single" => answer_line(alloc, talk, bytes, 1, false),
-        "quoted" => answer_line(alloc, talk, bytes, 4096, true),
-        "cuts" => cuts_line(alloc, talk, bytes),
-        "reads" => faults_line(alloc, talk, bytes, true),
-        "writes" => faults_line(alloc, talk, bytes, false),
-        _ => answer_line(alloc, word, rest, 4096, false),
+impl Answers for DialogueCases {
+    fn answer(&mut self, alloc: Global, line: &str) -> Result<Option<String>, OutOfMemory> {
+        let (word, rest) = cut(line, ' ');
+        let (talk, bytes) = cut(rest, ' ');
+        let answer = match word {
+            "single" => answer_line(alloc, talk, bytes, 1, false)?,
+            "quoted" => answer_line(alloc, talk, bytes, 4096, true)?,
+            "cuts" => cuts_line(alloc, talk, bytes)?,
+            "reads" => faults_line(alloc, talk, bytes, true)?,
+            "writes" => faults_line(alloc, talk, bytes, false)?,
+            _ => answer_line(alloc, word, rest, 4096, false)?,
+        };
+        Ok(Some(answer))
     }
 }
 
 fn main(rt: HostRuntime) -> io::Result<()> {
-    for line in rt.lines(rt.alloc()) {
-        let line = line?;
-        match answer(rt.alloc(), line.as_str()) {
-            Ok(text) => println!(rt; "{}", text)?,
-            Err(_) => println!(rt; "out of memory")?,
-        }
-    }
-    Ok(())
+    answer_lines(&rt, &mut DialogueCases)
 }

@@ -3,14 +3,10 @@ ghost use Rattle.std.specs.Prelude.{◌≡◌, ◌<◌, ◌^◌, length, IfOk};
 ghost use Rattle.pg_dialogue.specs.Queries.{IsShortLogin, IsShortName};
 
 use crate::link::MemoryLink;
-use crate::notation::{bytes_of, put_bytes};
 use crate::talks::{Talk, hold};
+use cases::{bytes_of, put_bytes};
 use pg_dialogue::Login;
-use shape_base::in_memory::{MemorySink, MemorySource};
-use shape_base::memory::OutOfMemory;
-use shape_base::seq::Seq;
-use shape_base::served::Served;
-use shape_base::text::Text;
+use shape_base::{MemorySink, MemorySource, OutOfMemory, Seq, Served, Text};
 use std::alloc::Global;
 
 fn talk_of(word: &str) -> Option<Talk> {
@@ -56,7 +52,13 @@ fn table(alloc: Global, ns: &str, name: &str) -> Result<Served, OutOfMemory>
     Ok(Served { ns, name, key })
 }
 
-fn link_of(alloc: Global, bytes: Vec<u8>, piece: usize, reads: Vec<u64>, writes: Vec<u64>) -> MemoryLink
+fn link_of(
+    alloc: Global,
+    bytes: Vec<u8>,
+    piece: usize,
+    reads: Vec<u64>,
+    writes: Vec<u64>,
+) -> MemoryLink
     requires { 0 < piece }
 {
     MemoryLink {
@@ -66,7 +68,13 @@ fn link_of(alloc: Global, bytes: Vec<u8>, piece: usize, reads: Vec<u64>, writes:
 }
 
 /// Holds a dialogue over a link, and adds what it answers to a line.
-fn held(alloc: Global, talk: Talk, out: &mut String, link: &mut MemoryLink, quoted: bool) -> Result<(), OutOfMemory> {
+fn held(
+    alloc: Global,
+    talk: Talk,
+    out: &mut String,
+    link: &mut MemoryLink,
+    quoted: bool,
+) -> Result<(), OutOfMemory> {
     if quoted {
         let login = login(alloc, "s\"1", "p'\"2")?;
         let table = table(alloc, "a\"b", "c\"")?;
@@ -80,7 +88,13 @@ fn held(alloc: Global, talk: Talk, out: &mut String, link: &mut MemoryLink, quot
 }
 
 /// What a dialogue answers, what it wrote, and how many bytes of the server are left.
-pub(crate) fn answer_line(alloc: Global, word: &str, text: &str, piece: usize, quoted: bool) -> Result<String, OutOfMemory>
+pub(crate) fn answer_line(
+    alloc: Global,
+    word: &str,
+    text: &str,
+    piece: usize,
+    quoted: bool,
+) -> Result<String, OutOfMemory>
     requires { 0 < piece }
 {
     let mut out = String::new(alloc);
@@ -88,7 +102,7 @@ pub(crate) fn answer_line(alloc: Global, word: &str, text: &str, piece: usize, q
         out.push_str("no such line")?;
         return Ok(out);
     };
-    let bytes = bytes_of(alloc, text.as_bytes())?;
+    let bytes = bytes_of(alloc, text)?;
     let size = bytes.len();
     let mut link = link_of(alloc, bytes, piece, Vec::new(alloc), Vec::new(alloc));
     held(alloc, talk, &mut out, &mut link, quoted)?;
@@ -100,7 +114,13 @@ pub(crate) fn answer_line(alloc: Global, word: &str, text: &str, piece: usize, q
 }
 
 /// What a dialogue answers over a front of the bytes.
-fn answer_of(alloc: Global, talk: Talk, bytes: &[u8], reads: Vec<u64>, writes: Vec<u64>) -> Result<String, OutOfMemory> {
+fn answer_of(
+    alloc: Global,
+    talk: Talk,
+    bytes: &[u8],
+    reads: Vec<u64>,
+    writes: Vec<u64>,
+) -> Result<String, OutOfMemory> {
     let mut out = String::new(alloc);
     let mut link = link_of(alloc, Vec::from_slice(alloc, bytes)?, 4096, reads, writes);
     held(alloc, talk, &mut out, &mut link, false)?;
@@ -114,10 +134,16 @@ pub(crate) fn cuts_line(alloc: Global, word: &str, text: &str) -> Result<String,
         out.push_str("no such line")?;
         return Ok(out);
     };
-    let bytes = bytes_of(alloc, text.as_bytes())?;
+    let bytes = bytes_of(alloc, text)?;
     let mut ended = 0u64;
     for size in 0..bytes.len() {
-        let answer = answer_of(alloc, talk, &bytes.as_slice()[..size], Vec::new(alloc), Vec::new(alloc))?;
+        let answer = answer_of(
+            alloc,
+            talk,
+            &bytes.as_slice()[..size],
+            Vec::new(alloc),
+            Vec::new(alloc),
+        )?;
         let wanted = format!(in alloc; "ended {size}")?;
         if answer.as_str().ends_with(wanted.as_str()) {
             ended = ended.saturating_add(1);
@@ -131,13 +157,18 @@ pub(crate) fn cuts_line(alloc: Global, word: &str, text: &str) -> Result<String,
 }
 
 /// In how many runs one failed call ends the dialogue.
-pub(crate) fn faults_line(alloc: Global, word: &str, text: &str, of_reads: bool) -> Result<String, OutOfMemory> {
+pub(crate) fn faults_line(
+    alloc: Global,
+    word: &str,
+    text: &str,
+    of_reads: bool,
+) -> Result<String, OutOfMemory> {
     let mut out = String::new(alloc);
     let Some(talk) = talk_of(word) else {
         out.push_str("no such line")?;
         return Ok(out);
     };
-    let bytes = bytes_of(alloc, text.as_bytes())?;
+    let bytes = bytes_of(alloc, text)?;
     for call in 0..1000u64 {
         let failing = vec![in alloc; call]?;
         let none = Vec::new(alloc);

@@ -3,11 +3,10 @@ ghost use Rattle.std.specs.Prelude.{◌≡◌, ◌<◌, ◌^◌, length, IfOk};
 ghost use Rattle.pg_dialogue.specs.Queries.{IsShortLogin, IsShortName};
 
 use crate::link::MemoryLink;
-use crate::notation::put_bytes;
+use cases::put_bytes;
 use pg_dialogue::{Dialogue, Login, SnapHead, WireError, describe, open_stream};
-use shape_base::row::{Row, Value};
-use shape_base::served::Served;
-use std::alloc::{AllocError, Global};
+use shape_base::{OutOfMemory, Row, Served, Value};
+use std::alloc::Global;
 
 /// Which dialogue is held.
 #[derive(Clone, Copy)]
@@ -17,7 +16,7 @@ pub(crate) enum Talk {
     Stream,
 }
 
-fn put_head(out: &mut String, head: &SnapHead) -> Result<(), AllocError> {
+fn put_head(out: &mut String, head: &SnapHead) -> Result<(), OutOfMemory> {
     out.push_str("shown ")?;
     put_bytes(out, head.vis.as_bytes())?;
     let oid = head.oid;
@@ -28,10 +27,11 @@ fn put_head(out: &mut String, head: &SnapHead) -> Result<(), AllocError> {
         let oid = column.oid;
         write!(out, " {oid}")?;
     }
-    out.push_str("; ")
+    out.push_str("; ")?;
+    Ok(())
 }
 
-fn put_row(out: &mut String, row: &Row) -> Result<(), AllocError> {
+fn put_row(out: &mut String, row: &Row) -> Result<(), OutOfMemory> {
     out.push_str("row")?;
     for value in row.as_slice() {
         match value {
@@ -43,27 +43,38 @@ fn put_row(out: &mut String, row: &Row) -> Result<(), AllocError> {
             }
         }
     }
-    out.push_str("; ")
+    out.push_str("; ")?;
+    Ok(())
 }
 
-fn put_error(out: &mut String, error: WireError) -> Result<(), AllocError> {
+fn put_error(out: &mut String, error: WireError) -> Result<(), OutOfMemory> {
     match error {
-        WireError::OutOfMemory => out.push_str("out_of_memory"),
-        WireError::LinkFault => out.push_str("link_fault"),
-        WireError::Ended { place } => write!(out, "ended {place}"),
+        WireError::OutOfMemory => out.push_str("out_of_memory")?,
+        WireError::LinkFault => out.push_str("link_fault")?,
+        WireError::Ended { place } => write!(out, "ended {place}")?,
         WireError::ErrorResponse { sqlstate } => {
             out.push_str("error_response ")?;
-            put_bytes(out, sqlstate.as_bytes())
+            put_bytes(out, sqlstate.as_bytes())?;
         }
-        WireError::BadReply { place } => write!(out, "bad_reply {place}"),
-        WireError::AuthWanted { code } => write!(out, "auth_wanted {code}"),
-        WireError::NotUtf8 { place } => write!(out, "not_utf8 {place}"),
-        WireError::TooLong { limit } => write!(out, "too_long {limit}"),
+        WireError::BadReply { place } => write!(out, "bad_reply {place}")?,
+        WireError::AuthWanted { code } => write!(out, "auth_wanted {code}")?,
+        WireError::NotUtf8 { place } => write!(out, "not_utf8 {place}")?,
+        WireError::TooLong { limit } => write!(out, "too_long {limit}")?,
     }
+    Ok(())
+}
+
+fn put_done(out: &mut String) -> Result<(), OutOfMemory> {
+    out.push_str("done")?;
+    Ok(())
 }
 
 /// Reads the rows, and whether they ended.
-fn rows(out: &mut String, link: &mut MemoryLink, dialogue: &mut Dialogue) -> Result<bool, AllocError> {
+fn rows(
+    out: &mut String,
+    link: &mut MemoryLink,
+    dialogue: &mut Dialogue,
+) -> Result<bool, OutOfMemory> {
     for _ in 0..u32::MAX {
         match dialogue.next_row(link) {
             Ok(Some(row)) => put_row(out, &row)?,
@@ -77,14 +88,20 @@ fn rows(out: &mut String, link: &mut MemoryLink, dialogue: &mut Dialogue) -> Res
     Ok(false)
 }
 
-fn finish(out: &mut String, link: &mut MemoryLink, dialogue: Dialogue) -> Result<(), AllocError> {
+fn finish(out: &mut String, link: &mut MemoryLink, dialogue: Dialogue) -> Result<(), OutOfMemory> {
     match dialogue.finish(link) {
-        Ok(()) => out.push_str("done"),
+        Ok(()) => put_done(out),
         Err(error) => put_error(out, error),
     }
 }
 
-fn snapshot(alloc: Global, out: &mut String, link: &mut MemoryLink, login: &Login, table: &Served) -> Result<(), AllocError>
+fn snapshot(
+    alloc: Global,
+    out: &mut String,
+    link: &mut MemoryLink,
+    login: &Login,
+    table: &Served,
+) -> Result<(), OutOfMemory>
     requires login { IsShortLogin login.now }
     requires table { IsShortName table.now }
 {
@@ -100,30 +117,48 @@ fn snapshot(alloc: Global, out: &mut String, link: &mut MemoryLink, login: &Logi
     }
 }
 
-fn description(alloc: Global, out: &mut String, link: &mut MemoryLink, login: &Login, table: &Served) -> Result<(), AllocError>
+fn description(
+    alloc: Global,
+    out: &mut String,
+    link: &mut MemoryLink,
+    login: &Login,
+    table: &Served,
+) -> Result<(), OutOfMemory>
     requires login { IsShortLogin login.now }
     requires table { IsShortName table.now }
 {
     match describe(alloc, link, login, table) {
         Ok(head) => {
             put_head(out, &head)?;
-            out.push_str("done")
+            put_done(out)
         }
         Err(error) => put_error(out, error),
     }
 }
 
-fn stream(alloc: Global, out: &mut String, link: &mut MemoryLink, login: &Login) -> Result<(), AllocError>
+fn stream(
+    alloc: Global,
+    out: &mut String,
+    link: &mut MemoryLink,
+    login: &Login,
+) -> Result<(), OutOfMemory>
     requires { IsShortLogin login.now }
 {
     match open_stream(alloc, link, login) {
-        Ok(()) => out.push_str("done"),
+        Ok(()) => put_done(out),
         Err(error) => put_error(out, error),
     }
 }
 
 /// Holds a dialogue, and adds what it answers to a line.
-pub(crate) fn hold(alloc: Global, talk: Talk, out: &mut String, link: &mut MemoryLink, login: &Login, table: &Served) -> Result<(), AllocError>
+pub(crate) fn hold(
+    alloc: Global,
+    talk: Talk,
+    out: &mut String,
+    link: &mut MemoryLink,
+    login: &Login,
+    table: &Served,
+) -> Result<(), OutOfMemory>
     requires login { IsShortLogin login.now }
     requires table { IsShortName table.now }
 {

@@ -9,7 +9,11 @@ use std::alloc::Global;
 /// Adds a frame to a line.
 fn put_frame(out: &mut String, frame: &Frame) -> Result<(), OutOfMemory> {
     match frame {
-        Frame::Wal { start, end, message } => {
+        Frame::Wal {
+            start,
+            end,
+            message,
+        } => {
             write!(out, "wal {start} {end} ")?;
             put_bytes(out, message.as_slice())
         }
@@ -30,7 +34,11 @@ fn put_refusal(out: &mut String, error: FrameError) -> Result<(), OutOfMemory> {
     match error {
         FrameError::OutOfMemory => out.push_str("out_of_memory")?,
         FrameError::BadFrame { place } => write!(out, "bad_frame {place}")?,
-        FrameError::FrameTooLong { place, bytes, limit } => {
+        FrameError::FrameTooLong {
+            place,
+            bytes,
+            limit,
+        } => {
             write!(out, "frame_too_long {place} {bytes} {limit}")?;
         }
         FrameError::ServerError { place, sqlstate } => {

@@ -1,1 +1,5 @@
 pub mod Loops
+pub mod Digits
+pub mod Bounds
+pub mod Rising
+pub mod Sums

@@ -1,5 +1,5 @@
 -- What loops have read so far, and what they still read.
-use Rattle.std.proofs.Common.{◌≡◌, ℕ, zero, suc, ◌+◌, ◌-◌, ◌≤◌, ◌<◌, Bool, true, false, cond, eqb, List, [], ◌∷◌, ◌++◌, length, Result, Ok, Err, refl, sym, ap, ◌∙◌, append_assoc, arith}
+use Rattle.std.proofs.Common.{◌≡◌, ℕ, zero, suc, ◌+◌, ◌-◌, ◌≤◌, ◌<◌, Bool, true, false, cond, eqb, List, [], ◌∷◌, ◌++◌, length, Result, Ok, Err, refl, sym, ap, ◌∙◌, append_assoc, eqb-true, true≢false, arith}
 use Rattle.std.proofs.lemmas.List.{append-nil}
 use Rattle.snapshot_merge.specs.declared.reading.Fault.{Fault}
 use Rattle.snapshot_merge.specs.declared.reading.Fault.TheVariants as faults
@@ -33,9 +33,20 @@ no_number (faults.Wrong left) front count i high low rest total lt h so_far =
 turned : (front : List ℕ) (count i high low id : ℕ) (rest tail : List ℕ) → i < count → number_at low high rest ≡ Ok (id, tail) → with_front front (still count i high low rest) ≡ with_front front (after_number (numbers_within (count - (i + 1)) high) (id, tail))
 turned front count i high low id rest tail lt h = ap (with_front front) (one_turn count i high low rest lt) ∙ rw h refl
 
-pub last_number : (front : List ℕ) (count i high low id : ℕ) (rest tail : List ℕ) (total : Result (List ℕ) ℕ) → i < count → number_at low high rest ≡ Ok (id, tail) → tail ≡ [] → with_front front (still count i high low rest) ≡ total → total ≡ Ok (front ++ id ∷ [])
-last_number front count i high low id rest tail total lt h nothing so_far =
-    sym so_far ∙ turned front count i high low id rest tail lt h ∙ ap (λ (xs : List ℕ). with_front front (after_number (numbers_within (count - (i + 1)) high) (id, xs))) nothing
+pub none_left : (xs : List ℕ) → true ≡ eqb (length xs) 0 → length xs ≡ 0
+none_left xs e = eqb-true (length xs) 0 (sym e)
+
+pub some_left : (xs : List ℕ) → false ≡ eqb (length xs) 0 → 0 < length xs
+some_left [] e = absurd (true≢false (sym e))
+some_left (x ∷ xs) e = omega arith
+
+nothing : (xs : List ℕ) → length xs ≡ 0 → xs ≡ []
+nothing [] e = refl
+nothing (x ∷ xs) e = absurd (omega (arith, e))
+
+pub last_number : (front : List ℕ) (count i high low id : ℕ) (rest tail : List ℕ) (total : Result (List ℕ) ℕ) → i < count → number_at low high rest ≡ Ok (id, tail) → length tail ≡ 0 → with_front front (still count i high low rest) ≡ total → total ≡ Ok (front ++ id ∷ [])
+last_number front count i high low id rest tail total lt h none so_far =
+    sym so_far ∙ turned front count i high low id rest tail lt h ∙ ap (λ (xs : List ℕ). with_front front (after_number (numbers_within (count - (i + 1)) high) (id, xs))) (nothing tail none)
 
 -- a byte that is there or not
 comma_if : (front : List ℕ) (id : ℕ) (b : Bool) (x : Result (List ℕ) ℕ) (left : ℕ) → with_front front (cond b (one_more id x) (Err left)) ≡ with_front (front ++ id ∷ []) (cond b x (Err left))

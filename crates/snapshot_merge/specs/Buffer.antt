@@ -1,6 +1,6 @@
 -- Transactions that wait, and their bytes.
 use Rattle.std.specs.Prelude.{ℕ, zero, ◌+◌, min, List, [], ◌∷◌}
-use Rattle.shape_base.specs.declared.row.Tx.{Tx}
+use Rattle.shape_base.specs.declared.change.Tx.{Tx}
 
 -- the bytes of the kept messages of transactions
 abbrev pub bytes_of : List Tx → ℕ

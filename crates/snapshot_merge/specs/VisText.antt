@@ -14,7 +14,7 @@ abbrev pub ◌>>=◌ : {A B : Type 0} → Result A ℕ → (A → Result B ℕ) 
 (Err left) >>= f = Err left
 
 abbrev pub is_digit : ℕ → Bool
-is_digit b = nat_le 48 b && nat_lt b 58
+is_digit b = nat_le 48 b && nat_le b 57
 
 -- A number and the digits that follow. A digit by which it passes 64 bits cannot stand there.
 unfoldable pub digits_at : ℕ → List ℕ → Read ℕ

@@ -3,8 +3,7 @@ ghost use Rattle.std.specs.Prelude.{◌≡◌, ◌⊎◌, ◌++◌, ◌∷◌, �
 ghost use Rattle.snapshot_merge.specs.Buffer.{bytes_of, capped};
 ghost use Rattle.snapshot_merge.specs.declared.pending.PendingError.TheVariants as errors;
 
-use shape_base::memory::{Duplicate, OutOfMemory};
-use shape_base::row::{Tx, Txs};
+use shape_base::{Duplicate, OutOfMemory, Tx, Txs};
 use std::alloc::Global;
 
 /// Why a transaction is not kept.

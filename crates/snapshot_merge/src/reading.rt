@@ -1,5 +1,6 @@
 //! Reading the text of a snapshot, part by part.
-ghost use Rattle.std.specs.Prelude.{◌≡◌, ◌+◌, ◌-◌, ◌*◌, ◌<◌, ◌≤◌, ◌^◌, true, length, IfOk, SomeIff};
+ghost use Rattle.std.specs.Prelude.{◌≡◌, ◌+◌, ◌-◌, ◌*◌, ◌<◌, ◌≤◌, ◌^◌, true, [], ◌∷◌, length, IfOk, SomeIff, MatchOption};
+ghost use Rattle.shape_base.specs.Visibility.{IsVisibility};
 ghost use Rattle.snapshot_merge.specs.VisText.{is_digit, digits_at, decimal_at, number_at, byte_at, numbers_within, listed_at, visibility_of};
 ghost use Rattle.snapshot_merge.specs.Answers.{Gives};
 
@@ -45,21 +46,29 @@ fn with_digit(number: u64, byte: u8) -> Option<u64>
     number.checked_mul(10)?.checked_add(digit)
 }
 
+/// The first byte, and those after it.
+fn next_byte(bytes: &[u8]) -> Option<(u8, &[u8])>
+    ensures { MatchOption result (bytes.now ≡ []) (λ x. bytes.now ≡ x.0 ∷ x.1.now) }
+{
+    let (first, rest) = bytes.split_first()?;
+    Some((*first, rest))
+}
+
 /// The number with the digits that follow.
 fn digits(number: u64, bytes: &[u8]) -> Result<(u64, &[u8]), Fault>
     ensures { Gives (λ x. (x.0, x.1.now)) result (digits_at number bytes.now) }
 {
     let mut number = number;
     let mut rest = bytes;
-    'digits: while let [byte, after @ ..] = rest {
+    'digits: while let Some((byte, others)) = next_byte(rest) {
         if !byte.is_ascii_digit() {
             return Ok((number, rest));
         }
-        match with_digit(number, *byte) {
+        match with_digit(number, byte) {
             Some(more) => number = more,
             None => return Err(Fault::Wrong { left: rest.len() }),
         }
-        rest = after;
+        rest = others;
     }
     Ok((number, rest))
 }
@@ -143,7 +152,8 @@ fn listed(alloc: Global, low: u64, high: u64, bytes: &[u8]) -> Result<Vec<u64>, 
 
 /// The parts of the text of a snapshot.
 pub(crate) fn parts(alloc: Global, text: &[u8]) -> Result<(u64, u64, Vec<u64>), Fault>
-    ensures { Gives (λ x. record { xmin = x.0; xmax = x.1; listed = x.2.items }) result (visibility_of text.now) }
+    ensures read { Gives (λ x. record { xmin = x.0; xmax = x.1; listed = x.2.items }) result (visibility_of text.now) }
+    ensures ordered { IfOk result (λ x. IsVisibility (record { xmin = x.0; xmax = x.1; listed = x.2.items })) }
 {
     let (xmin, rest) = number(1, u64::MAX, text)?;
     let rest = after(b':', rest)?;

@@ -17,11 +17,13 @@ pub struct Vis {
 }
 
 impl Model for Vis {
-    ghost use Rattle.shape_base.specs.Visibility.{Visibility};
+    ghost use Rattle.shape_base.specs.Visibility.{Visibility, IsVisibility};
 
     ghost Value = { Visibility };
 
     ghost view = { λ v. record { xmin = v.xmin; xmax = v.xmax; listed = v.listed.items } };
+
+    ghost invariant = { λ v. IsVisibility (record { xmin = v.xmin; xmax = v.xmax; listed = v.listed.items }) };
 }
 
 /// Why a text is not read.

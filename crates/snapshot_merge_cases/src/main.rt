@@ -7,8 +7,8 @@
 //! | `pending 100 60 40 1` | of transactions with so many bytes, numbered from 1, under that limit: whether each is kept; then those that waited, in order |
 #![tactic(auto)]
 
-use shape_base::memory::OutOfMemory;
-use shape_base::row::{Changes, TableDefs, Tx};
+use cases::{Answers, answer_lines, cut};
+use shape_base::{Changes, OutOfMemory, TableDefs, Tx};
 use snapshot_merge::{Pending, PendingError, Vis, VisError};
 use std::alloc::Global;
 use std::io;
@@ -86,30 +86,23 @@ fn pending_line(alloc: Global, limit: &str, sizes: &str) -> Result<String, OutOf
     Ok(out)
 }
 
-/// What stands before the first blank, and what behind it.
-fn cut(text: &str) -> (&str, &str) {
-    text.split_once(' ').unwrap_or((text, ""))
-}
+#[derive(Drop)]
+struct SnapshotCases;
 
-/// What is printed for a line.
-fn answer(alloc: Global, line: &str) -> Result<String, OutOfMemory> {
-    let (word, rest) = cut(line);
-    let (first, others) = cut(rest);
-    match word {
-        "read" => read_line(alloc, rest),
-        "visible" => visible_line(alloc, first, others),
-        "pending" => pending_line(alloc, first, others),
-        _ => Ok(format!(in alloc; "no such line")?),
+impl Answers for SnapshotCases {
+    fn answer(&mut self, alloc: Global, line: &str) -> Result<Option<String>, OutOfMemory> {
+        let (word, rest) = cut(line, ' ');
+        let (first, others) = cut(rest, ' ');
+        let answer = match word {
+            "read" => read_line(alloc, rest)?,
+            "visible" => visible_line(alloc, first, others)?,
+            "pending" => pending_line(alloc, first, others)?,
+            _ => format!(in alloc; "no such line")?,
+        };
+        Ok(Some(answer))
     }
 }
 
 fn main(rt: HostRuntime) -> io::Result<()> {
-    for line in rt.lines(rt.alloc()) {
-        let line = line?;
-        match answer(rt.alloc(), line.as_str()) {
-            Ok(text) => println!(rt; "{}", text)?,
-            Err(_) => println!(rt; "out of memory")?,
-        }
-    }
-    Ok(())
+    answer_lines(&rt, &mut SnapshotCases)
 }
