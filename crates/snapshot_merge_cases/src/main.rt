@@ -55,7 +55,13 @@ fn tx_of(alloc: Global, xid: u32, bytes: u64) -> Tx {
 }
 
 /// Puts a transaction to the others, and adds what is answered to a line.
-fn push(alloc: Global, out: &mut String, pending: &mut Pending, xid: u32, bytes: u64) -> Result<(), OutOfMemory> {
+fn push(
+    alloc: Global,
+    out: &mut String,
+    pending: &mut Pending,
+    xid: u32,
+    bytes: u64,
+) -> Result<(), OutOfMemory> {
     match pending.push(&tx_of(alloc, xid, bytes)) {
         Ok(()) => {
             out.push_str("kept; ")?;
@@ -76,7 +82,13 @@ fn pending_line(alloc: Global, limit: &str, sizes: &str) -> Result<String, OutOf
     let mut xid = 0u32;
     for size in sizes.split(' ') {
         xid = xid.wrapping_add(1);
-        push(alloc, &mut out, &mut pending, xid, size.parse::<u64>().unwrap_or(0))?;
+        push(
+            alloc,
+            &mut out,
+            &mut pending,
+            xid,
+            size.parse::<u64>().unwrap_or(0),
+        )?;
     }
     out.push_str("waited")?;
     for tx in pending.drain().as_slice() {
