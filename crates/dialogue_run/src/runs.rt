@@ -10,6 +10,7 @@ use std::io;
 use std::io::Write;
 
 /// What a run is asked for.
+#[derive(Drop)]
 pub(crate) struct Order<'a> {
     pub word: &'a str,
     pub user: &'a str,
@@ -56,7 +57,11 @@ fn refuse<W: Write>(out: &mut W, error: WireError) -> io::Result<u8> {
         WireError::OutOfMemory => out.write_all(b"out_of_memory\n")?,
         WireError::LinkFault => out.write_all(b"link_fault\n")?,
         WireError::Ended { place } => writeln!(out, "ended {place}")?,
-        WireError::ErrorResponse { sqlstate } => writeln!(out, "error_response {}", sqlstate.as_str())?,
+        WireError::ErrorResponse { sqlstate } => writeln!(
+            out,
+            "error_response {}",
+            sqlstate.as_str()
+        )?,
         WireError::BadReply { place } => writeln!(out, "bad_reply {place}")?,
         WireError::AuthWanted { code } => writeln!(out, "auth_wanted {code}")?,
         WireError::NotUtf8 { place } => writeln!(out, "not_utf8 {place}")?,
@@ -75,7 +80,12 @@ fn put_head<W: Write>(out: &mut W, head: &SnapHead) -> io::Result<u8> {
 }
 
 /// Reads the rows to their end, writes them where that is asked for, and counts them.
-fn rows<P: Source, W: Write>(dialogue: &mut Dialogue, link: &mut P, out: &mut W, printed: bool) -> io::Result<Result<(u64, u64), WireError>> {
+fn rows<P: Source, W: Write>(
+    dialogue: &mut Dialogue,
+    link: &mut P,
+    out: &mut W,
+    printed: bool,
+) -> io::Result<Result<(u64, u64), WireError>> {
     let mut rows = 0u64;
     let mut values = 0u64;
     for _ in 0..u64::MAX {
@@ -94,7 +104,14 @@ fn rows<P: Source, W: Write>(dialogue: &mut Dialogue, link: &mut P, out: &mut W,
     Ok(Ok((rows, values)))
 }
 
-fn snapshot<P: Source + Sink, W: Write>(alloc: Global, link: &mut P, out: &mut W, login: &Login, table: &Served, printed: bool) -> io::Result<u8>
+fn snapshot<P: Source + Sink, W: Write>(
+    alloc: Global,
+    link: &mut P,
+    out: &mut W,
+    login: &Login,
+    table: &Served,
+    printed: bool,
+) -> io::Result<u8>
     requires login { IsShortLogin login.now }
     requires table { IsShortName table.now }
 {
@@ -118,7 +135,12 @@ fn snapshot<P: Source + Sink, W: Write>(alloc: Global, link: &mut P, out: &mut W
 }
 
 /// Holds the dialogue that is asked for, and gives a status.
-pub(crate) fn run<P: Source + Sink, W: Write>(alloc: Global, link: &mut P, out: &mut W, order: &Order) -> io::Result<u8> {
+pub(crate) fn run<P: Source + Sink, W: Write>(
+    alloc: Global,
+    link: &mut P,
+    out: &mut W,
+    order: &Order,
+) -> io::Result<u8> {
     let (Ok(login), Ok(table)) = (login_of(alloc, order), table_of(alloc, order)) else {
         return refuse(out, WireError::OutOfMemory);
     };
