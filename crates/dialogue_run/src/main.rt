@@ -14,7 +14,7 @@ mod runs;
 
 use link::TcpLink;
 use runs::{Order, run};
-use std::io::BufWriter;
+use std::io::{BufWriter, Write};
 use std::net::TcpStream;
 use std::process::ExitCode;
 use std::{env, io};

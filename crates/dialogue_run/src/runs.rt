@@ -10,6 +10,7 @@ use std::io;
 use std::io::Write;
 
 /// What a run is asked for.
+#[derive(Drop)]
 pub(crate) struct Order<'a> {
     pub word: &'a str,
     pub user: &'a str,
