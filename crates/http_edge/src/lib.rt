@@ -2,6 +2,7 @@
 #![tactic(auto)]
 
 mod error_code;
+pub mod laws;
 mod refusal;
 mod request;
 
