@@ -5,8 +5,8 @@ pub use Rattle.shape_base.proofs.Maps.{Texts, get_in, insert_in, remove_in, entr
 pub use Rattle.shape_base.proofs.KeyText.{IsApart, quoted_split, values_tell}
 pub use Rattle.shape_base.proofs.Utf8Key.{IsUtf8-quoted}
 pub use Rattle.shape_base.proofs.Commits.{fold_from-append}
-pub use Rattle.shape_base.proofs.Offsets.{before_trans, not_before_itself, before_least, not_before_less, rises_front, last_least, last_offset-append, upto_none, upto_last, rises_from, upto_more, upto_past, rises_past, rises-append, rises_more, upto_front, upto_start}
-pub use Rattle.shape_base.proofs.Rising.{lsn_of, before_lsn, lsn_before, before_pos, whole_rises, offsets_rise}
+pub use Rattle.shape_base.proofs.Offsets.{before_trans, not_before_itself, before_least, not_before_less, rises_front, rises_back, last_least, last_offset-append, upto_none, upto_last, rises_from, upto_more, upto_past, rises_past, rises-append, rises_more, upto_front, upto_start}
+pub use Rattle.shape_base.proofs.Rising.{lsn_of, before_lsn, lsn_before, before_pos, whole_rises, offsets_rise, commits_rise, unseen_rise, over_rises}
 pub use Rattle.shape_base.proofs.Growing.{log_front, log_grows, point_rises}
 pub use Rattle.shape_base.proofs.Meanings.{changes_alike, past_alike, unseen_alike, drop_alike, take_alike, length_alike, same_meaning}
 pub use Rattle.shape_base.proofs.LogLaw.{log_fold}

@@ -1,15 +1,13 @@
 -- The order of offsets, and the entries up to one and past it.
-use Rattle.std.proofs.Common.{◌≡◌, ℕ, ◌≤◌, Bool, true, false, List, [], ◌∷◌, ◌++◌, length, take, drop, refl, sym, ◌∙◌, ap, subst, arith, append_assoc, Option, None, Some, IfSome}
+use Rattle.std.proofs.Common.{◌≡◌, ℕ, ◌≤◌, Bool, true, false, List, [], ◌∷◌, ◌++◌, length, take, drop, refl, sym, ◌∙◌, ap, subst, arith}
 use Rattle.std.proofs.lemmas.List.{take-append-drop, length-take-le}
 use Rattle.std.proofs.lemmas.Bool.{and_parts, and_from, false_from_ne_true}
-use Rattle.std.specs.Prelude.{nat_le}
 use Rattle.std.specs.Bool.{if◌then◌else◌}
-use Rattle.std.specs.Option.{option_map}
 use Rattle.std.proofs.lemmas.Bool.Decides.{nat_tests}
 use Rattle.shape_base.specs.declared.offset.Offset.{Offset}
 use Rattle.shape_base.specs.declared.offset.Offset.TheVariants.{Start, At}
 use Rattle.shape_base.specs.declared.entry.Entry.{Entry}
-use Rattle.shape_base.specs.Log.{last_offset, end_of}
+use Rattle.shape_base.specs.Log.{last_offset}
 use Rattle.shape_base.specs.Offsets.{is_before, rises_after, upto, past}
 
 pub before_trans : (a b c : Offset) → is_before a b ≡ true → is_before b c ≡ true → is_before a c ≡ true
@@ -40,6 +38,10 @@ not_before_less a b c h k = false_from_ne_true _ (λ t. let u : is_before c b �
 pub rises_front : (o : Offset) (es fs : List Entry) → rises_after o (es ++ fs) ≡ true → rises_after o es ≡ true
 rises_front o [] fs h = refl
 rises_front o (e ∷ es) fs h = and_from _ _ (and_parts _ _ h).0 (rises_front e.offset es fs (and_parts (is_before o e.offset) _ h).1)
+
+pub rises_back : (o : Offset) (es fs : List Entry) → rises_after o (es ++ fs) ≡ true → rises_after (last_offset o es) fs ≡ true
+rises_back o [] fs h = h
+rises_back o (e ∷ es) fs h = rises_back e.offset es fs ((and_parts _ _ h).1)
 
 pub last_least : (o : Offset) (es : List Entry) → rises_after o es ≡ true → is_before (last_offset o es) o ≡ false
 last_least o [] h = not_before_itself o

@@ -1,12 +1,12 @@
 -- A registry's history with more after it.
-use Rattle.std.proofs.Common.{◌≡◌, ℕ, ◌+◌, Option, Bool, true, false, ◌&&◌, ◌||◌, ◌==◌, List, [], ◌∷◌, ◌++◌, refl, sym, ◌∙◌, ap, subst, append_assoc}
+use Rattle.std.proofs.Common.{◌≡◌, ℕ, Option, Bool, ◌&&◌, ◌||◌, ◌==◌, List, [], ◌∷◌, ◌++◌, sym, ◌∙◌, ap, subst, append_assoc}
 use Rattle.std.specs.List.{list_any, filter_map}
 use Rattle.std.proofs.lemmas.List.{append-nil}
 use Rattle.std.proofs.lemmas.List.Elements.{filter_map-append}
 use Rattle.std.proofs.lemmas.List.Folds.{list_any-append}
 use Rattle.shape_base.specs.declared.registry_event.RegistryEvent.{RegistryEvent}
 use Rattle.shape_base.specs.Tables.{same_text}
-use Rattle.shape_base.specs.RegistryHistory.{Registration, Removal, registrations, registration_in, removals, removal_in, made_ready, ready_in, was_registered, was_registered_under, was_removed, had_ready, MayFollow, MayAllFollow, IsLegal}
+use Rattle.shape_base.specs.RegistryHistory.{registration_in, removal_in, ready_in, was_registered, was_registered_under, was_removed, had_ready, MayFollow, MayAllFollow, IsLegal}
 
 -- what holds of a part of the events holds of it in either piece
 any_of_both : {A : Type 0} (part : RegistryEvent → Option A) (test : A → Bool) (es more : List RegistryEvent) → list_any test (filter_map part (es ++ more)) ≡ (list_any test (filter_map part es) || list_any test (filter_map part more))

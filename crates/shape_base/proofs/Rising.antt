@@ -1,6 +1,6 @@
 -- The offsets of a log rise.
 use Rattle.std.proofs.Common.{◌≡◌, ℕ, ◌+◌, ◌*◌, ◌<◌, ◌≤◌, Bool, true, false, ◌==◌, List, [], ◌∷◌, ◌++◌, drop, refl, sym, subst, arith, append_assoc, Option, None, Some}
-use Rattle.std.proofs.lemmas.Bool.{and_parts, and_from}
+use Rattle.std.proofs.lemmas.Bool.{and_from}
 use Rattle.std.specs.Bool.{if◌then◌else◌}
 use Rattle.std.specs.List.{list_any, flat_map, slice_get}
 use Rattle.std.proofs.lemmas.Bool.Decides.{nat_tests}
@@ -16,7 +16,10 @@ use Rattle.shape_base.specs.declared.history.Step.TheVariants.{Commit, Define}
 use Rattle.shape_base.specs.declared.history.History.{History}
 use Rattle.shape_base.specs.Tables.{Table, Own, same_text, own_of, own_from, changes_of, RiseFrom}
 use Rattle.shape_base.specs.Shape.{Knows, Keyed, stops, emit, pick, old_of, new_of, entries_of, update_at, differing, shown}
-use Rattle.shape_base.specs.Log.{later, log_of, start_from}
+use Rattle.shape_base.specs.declared.change.Tx.{Tx}
+use Rattle.shape_base.specs.Visibility.{Visibility, is_visible}
+use Rattle.shape_base.specs.Transactions.{LsnsRise}
+use Rattle.shape_base.specs.Log.{later, log_of, log_over, unseen, entries_past, start_from}
 use Rattle.shape_base.specs.Offsets.{is_before, rises_after}
 use Rattle.shape_base.specs.Laws.{OffsetsRise}
 use Rattle.shape_base.proofs.EndLaw.{rise_past}
@@ -93,3 +96,26 @@ pub offsets_rise : OffsetsRise
 offsets_rise h s snapshot k n good =
     let front = log_front h s snapshot k n in
     rises_front (At 0 0) (log_of h s snapshot k n) front.more (subst (λ es. rises_after (At 0 0) es ≡ true) front.is (whole_rises h s snapshot k good.rise))
+
+-- ---- over a list of commits
+
+pub commits_rise : (s : Knows) (txs : List Tx) (base : ℕ) → LsnsRise base txs → (o : Offset) → lsn_of o ≤ base → rises_after o (entries_past s txs) ≡ true
+commits_rise s [] base h o le = refl
+commits_rise s (tx ∷ txs) base h o le = stop_or_rise (list_any (stops s) (changes_of s.definition.table tx)) o _
+    (rise_own s s.definition.table tx.lsn tx.defs 0 tx.changes o (entries_past s txs) (before_lsn o tx.lsn (2 * 0) (omega (arith, h.0, le))) (λ x less. commits_rise s txs tx.lsn h.1 x less))
+
+from_less : (a b : ℕ) (txs : List Tx) → a ≤ b → LsnsRise b txs → LsnsRise a txs
+from_less a b [] le h = tt
+from_less a b (tx ∷ txs) le h = (omega (arith, h.0, le), h.1)
+
+unseen_if : (v : Visibility) (tx : Tx) (txs : List Tx) (base : ℕ) (b : Bool) → LsnsRise base (tx ∷ txs) → LsnsRise tx.lsn (unseen v txs) → LsnsRise base (if b then unseen v txs else tx ∷ txs)
+unseen_if v tx txs base true h rest = from_less base tx.lsn (unseen v txs) (omega (arith, h.0)) rest
+unseen_if v tx txs base false h rest = h
+
+pub unseen_rise : (v : Visibility) (txs : List Tx) (base : ℕ) → LsnsRise base txs → LsnsRise base (unseen v txs)
+unseen_rise v [] base h = tt
+unseen_rise v (tx ∷ txs) base h = unseen_if v tx txs base (is_visible v tx.xid) h (unseen_rise v txs tx.lsn h.1)
+
+-- The log over a snapshot and commits whose LSNs rise has offsets that rise.
+pub over_rises : (s : Knows) (v : Visibility) (snapshot : Table) (txs : List Tx) → LsnsRise 0 txs → rises_after (At 0 0) (log_over s v snapshot txs) ≡ true
+over_rises s v snapshot txs h = rise_start 0 (shown s snapshot) (entries_past s (unseen v txs)) (λ o le. commits_rise s (unseen v txs) 0 (unseen_rise v txs 0 h) o le)

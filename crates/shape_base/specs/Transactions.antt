@@ -1,5 +1,5 @@
 -- What a transaction does, and what those who are given one rely on.
-use Rattle.std.specs.Prelude.{◌≡◌, ℕ, ◌<◌, List, length, map, Option, slice_get}
+use Rattle.std.specs.Prelude.{◌≡◌, ℕ, ◌<◌, List, [], ◌∷◌, length, map, Option, slice_get}
 use Rattle.std.specs.List.{AllByRecursion}
 use Rattle.std.specs.Option.{IsSomeAnd}
 use Rattle.shape_base.specs.declared.definition.TableDef.{TableDef}
@@ -30,3 +30,8 @@ IsUnder defs c = IsSomeAnd (slice_get defs c.def) (λ d. IsAsWide d c.kind)
 pub record IsWhole (tx : Tx) : Type 0 where
   pub under : AllByRecursion (IsUnder tx.defs) tx.changes
   pub few : length tx.changes < 9223372036854775808
+
+-- their LSNs rise strictly, from above this one
+abbrev pub LsnsRise : ℕ → List Tx → Type 0
+LsnsRise base [] = Unit {0}
+LsnsRise base (tx ∷ txs) = (base < tx.lsn) × LsnsRise tx.lsn txs

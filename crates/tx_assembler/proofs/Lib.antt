@@ -5,3 +5,5 @@ pub mod Pieces
 pub mod Standing
 pub mod Runs
 pub mod Taken
+pub mod Rising
+pub mod Lemmas

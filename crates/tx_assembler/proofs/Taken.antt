@@ -7,14 +7,13 @@ use Rattle.pgout.specs.declared.message.Message.{Message}
 use Rattle.shape_base.specs.declared.change.Tx.{Tx}
 use Rattle.shape_base.specs.declared.served.Served.{Served}
 use Rattle.relation_cache.specs.Relations.{ByOid}
-use Rattle.tx_assembler.specs.declared.answer.AssembleError.{AssembleError}
 use Rattle.tx_assembler.specs.declared.answer.Fed.{Fed}
 use Rattle.tx_assembler.specs.declared.answer.Fed.TheVariants as answers
 use Rattle.tx_assembler.specs.declared.stage.Stage.TheVariants.{Refused}
 use Rattle.tx_assembler.specs.Answers.{Answer, is_memory}
 use Rattle.tx_assembler.specs.Situation.{Situation}
 use Rattle.tx_assembler.specs.Feeding.{Turn, with_stage, turn_of, IsFed}
-use Rattle.tx_assembler.specs.Shown.{Stretch, Sent, messages_of, pieces_of, greatest_of, Verdict, refused_after, taken_from, taken_of, shown_in, shown_from, shown}
+use Rattle.tx_assembler.specs.Shown.{Stretch, messages_of, pieces_of, greatest_of, Verdict, refused_after, taken_from, taken_of, shown_in, shown_from, shown}
 use Rattle.tx_assembler.specs.Stream.{after_turn, told, after_all, at_start, reopened, due_after, due_by, due_from, due_one, unless_due, due_behind, due_next, if_given, given_in, last_over, sent, HasTaken, TookOne, TakesOn, BeginsOn, IsLastTaken}
 use Rattle.tx_assembler.proofs.Standing.{standing, put_by, turn_by, Stands, turned, stands_on, stands_first}
 use Rattle.tx_assembler.proofs.Runs.{refused_all, reopened_so, none_given, given_so}

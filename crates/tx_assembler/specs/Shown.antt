@@ -1,8 +1,5 @@
 -- What a stream shows: the transactions of its stretches, each whole from Begin to Commit, without repeats.
-use Rattle.std.specs.Prelude.{◌≡◌, ℕ, ◌+◌, max, nat_le, ◌==◌, Bool, true, false, if◌then◌else◌, List, [], ◌∷◌, ◌++◌, length, map, take, Ok, Err, Option, None, Some, slice_get}
-use Rattle.shape_base.specs.declared.definition.TableDef.{TableDef}
-use Rattle.shape_base.specs.declared.change.Change.{Change}
-use Rattle.shape_base.specs.declared.change.ChangeKind.{ChangeKind}
+use Rattle.std.specs.Prelude.{◌≡◌, ℕ, ◌+◌, max, nat_le, ◌==◌, Bool, true, false, if◌then◌else◌, List, [], ◌∷◌, ◌++◌, length, map, take, Ok, Err, Option, None, Some}
 use Rattle.shape_base.specs.declared.change.Tx.{Tx}
 use Rattle.shape_base.specs.declared.served.Served.{Served}
 use Rattle.shape_base.specs.declared.history.History.{History}

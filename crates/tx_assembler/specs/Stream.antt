@@ -3,6 +3,7 @@ use Rattle.std.specs.Prelude.{◌≡◌, ℕ, nat_le, if◌then◌else◌, List,
 use Rattle.std.specs.FinMap as relations
 use Rattle.shape_base.specs.declared.change.Tx.{Tx}
 use Rattle.shape_base.specs.declared.served.Served.{Served}
+use Rattle.shape_base.specs.Transactions.{LsnsRise}
 use Rattle.pgout.specs.declared.message.Message.{Message}
 use Rattle.tx_assembler.specs.declared.answer.Fed.{Fed}
 use Rattle.tx_assembler.specs.declared.answer.Fed.TheVariants as answers
@@ -152,3 +153,7 @@ pub record IsShownSo (tables : List Served) (stream : List Stretch) : Type 0 whe
 
 abbrev pub FedIsShown : Type 0
 FedIsShown = (tables : List Served) (stream : List Stretch) → IsShownSo tables stream
+
+-- What a stream shows has LSNs that rise strictly, from above 0.
+abbrev pub ShownRise : Type 0
+ShownRise = (tables : List Served) (stream : List Stretch) → LsnsRise 0 (shown tables stream)

@@ -1,0 +1,2 @@
+-- What other crates cite of this crate's proofs. Declares nothing.
+pub use Rattle.tx_assembler.proofs.Rising.{shown_rise}
