@@ -12,9 +12,9 @@ use Rattle.pg_dialogue.specs.declared.contents.Sent.{Sent}
 use Rattle.pg_dialogue.specs.declared.contents.Sent.TheVariants.{Null, Chars}
 use Rattle.pg_dialogue.specs.declared.wanted.Wanted.{Wanted}
 use Rattle.pg_dialogue.specs.declared.wanted.Wanted.TheVariants.{Authentication, Started, Completed, Ready, SnapshotColumn, SnapshotText, TableColumns, TableRow, CopyBoth}
-use Rattle.pg_dialogue.specs.declared.wanted.News.TheVariants.{Came, Shown, Described, Row}
+use Rattle.pg_dialogue.specs.declared.wanted.News.TheVariants.{Acknowledged, Shown, Described, Row}
 use Rattle.pg_dialogue.specs.Contents.{row_description, data_row}
-use Rattle.pg_dialogue.specs.Replies.{Reply, bad, error_with, error_response, allowed, authentication, ready, started, came_if, came_after, completed, one_column, fields_with, snapshot_column, table_of, columns_in, is_name, column_of, is_text, value_of, described, table_columns, row_with, table_row, text_with, snapshot_text, copy_both, reply_to, reply}
+use Rattle.pg_dialogue.specs.Replies.{Reply, bad, error_with, error_response, allowed, authentication, ready, started, acknowledged_if, acknowledged_after, completed, one_column, fields_with, snapshot_column, table_of, columns_in, is_name, column_of, is_text, value_of, described, table_columns, row_with, table_row, text_with, snapshot_text, copy_both, reply_to, reply}
 
 abbrev Inside : Reply → Type 0
 Inside (Ok x) = Unit {0}
@@ -27,9 +27,9 @@ either false x y p q = q
 bad_in : (place : ℕ) → Inside (bad place)
 bad_in place e = cc
 
-came_in : (b : Bool) (place : ℕ) → Inside (came_if b place)
-came_in true place = tt
-came_in false place = bad_in place
+acknowledged_in : (b : Bool) (place : ℕ) → Inside (acknowledged_if b place)
+acknowledged_in true place = tt
+acknowledged_in false place = bad_in place
 
 utf8_in : (b : Bool) (place : ℕ) (x : Reply) → Inside x → Inside (cond b x (Err (NotUtf8 place)))
 utf8_in b place x p = either b x (Err (NotUtf8 place)) p (λ e. cc)
@@ -43,18 +43,18 @@ error_in place (Some code) e = error_by (is_utf8 code) place code e
 error_in place None e = cc
 
 allowed_in : (place : ℕ) (r : Read ℕ) → Inside (allowed place r)
-allowed_in place (Ok x) = either (eqb x.0 0) (came_if (eqb (length x.1) 0) place) _ (came_in (eqb (length x.1) 0) place) (λ e. cc)
+allowed_in place (Ok x) = either (eqb x.0 0) (acknowledged_if (eqb (length x.1) 0) place) _ (acknowledged_in (eqb (length x.1) 0) place) (λ e. cc)
 allowed_in place (Err left) = bad_in place
 
-after_in : (place : ℕ) (r : Result (List ℕ) ℕ) → Inside (came_after place r)
+after_in : (place : ℕ) (r : Result (List ℕ) ℕ) → Inside (acknowledged_after place r)
 after_in place (Ok tag) = tt
 after_in place (Err left) = bad_in place
 
 completed_in : (place kind : ℕ) (payload : List ℕ) → Inside (completed place kind payload)
-completed_in place kind payload = either (eqb kind 67) (came_after place (whole string payload)) (bad place) (after_in place (whole string payload)) (bad_in place)
+completed_in place kind payload = either (eqb kind 67) (acknowledged_after place (whole string payload)) (bad place) (after_in place (whole string payload)) (bad_in place)
 
 one_in : (place : ℕ) (fields : List Field) → Inside (one_column place fields)
-one_in place fields = either (eqb (length fields) 1) (cond (list_all is_name fields) (Ok (Some Came)) (Err (NotUtf8 place))) (bad place) (utf8_in (list_all is_name fields) place (Ok (Some Came)) tt) (bad_in place)
+one_in place fields = either (eqb (length fields) 1) (cond (list_all is_name fields) (Ok (Some Acknowledged)) (Err (NotUtf8 place))) (bad place) (utf8_in (list_all is_name fields) place (Ok (Some Acknowledged)) tt) (bad_in place)
 
 columns_inside : (place : ℕ) (fields : List Field) (o : Option ℕ) → Inside (columns_in place fields o)
 columns_inside place fields None = bad_in place
@@ -78,14 +78,14 @@ text_in place (Err left) = bad_in place
 
 reply_to_in : (w : Wanted) (place kind : ℕ) (payload : List ℕ) → Inside (reply_to w place kind payload)
 reply_to_in Authentication place kind payload = either (eqb kind 82) (allowed place (int32.read payload)) (bad place) (allowed_in place (int32.read payload)) (bad_in place)
-reply_to_in Started place kind payload = either (eqb kind 75) (Ok None) (ready place kind payload) tt (came_in _ place)
+reply_to_in Started place kind payload = either (eqb kind 75) (Ok None) (ready place kind payload) tt (acknowledged_in _ place)
 reply_to_in Completed place kind payload = completed_in place kind payload
-reply_to_in Ready place kind payload = came_in _ place
+reply_to_in Ready place kind payload = acknowledged_in _ place
 reply_to_in SnapshotColumn place kind payload = either (eqb kind 84) (fields_with one_column place (whole row_description payload)) (bad place) (fields_in one_column place (whole row_description payload) (one_in place)) (bad_in place)
 reply_to_in SnapshotText place kind payload = either (eqb kind 68) (text_with place (whole data_row payload)) (bad place) (text_in place (whole data_row payload)) (bad_in place)
 reply_to_in TableColumns place kind payload = either (eqb kind 84) (fields_with described place (whole row_description payload)) (bad place) (fields_in described place (whole row_description payload) (λ fields. columns_inside place fields (table_of fields))) (bad_in place)
 reply_to_in TableRow place kind payload = either (eqb kind 68) (row_with place (whole data_row payload)) (completed place kind payload) (row_in place (whole data_row payload)) (completed_in place kind payload)
-reply_to_in CopyBoth place kind payload = came_in _ place
+reply_to_in CopyBoth place kind payload = acknowledged_in _ place
 
 reply_in : (w : Wanted) (place kind : ℕ) (payload : List ℕ) → Inside (reply w place kind payload)
 unfolding reply

@@ -8,7 +8,7 @@ use Rattle.pg_dialogue.specs.declared.wire_error.WireError.TheVariants.{OutOfMem
 use Rattle.pg_dialogue.specs.declared.contents.Field.{Field}
 use Rattle.pg_dialogue.specs.declared.contents.Sent.{Sent}
 use Rattle.pg_dialogue.specs.declared.wanted.News.{News}
-use Rattle.pg_dialogue.specs.declared.wanted.News.TheVariants.{Came, Described, Row}
+use Rattle.pg_dialogue.specs.declared.wanted.News.TheVariants.{Acknowledged, Described, Row}
 use Rattle.pg_dialogue.specs.Columns.{next, columns_of, values_of}
 use Rattle.pg_dialogue.specs.Replies.{Reply, is_name, column_of, table_of, columns_in, one_column, described, is_text, value_of, row_with}
 use Rattle.pg_dialogue.proofs.Texts.{columns_are, values_are}
@@ -22,13 +22,13 @@ after_if : {A : Type 0} (b : Bool) (x : A) (e : WireError) (f : A → Reply) →
 after_if true x e f = refl
 after_if false x e f = refl
 
-abbrev pub came : List Column → Reply
-came cs = Ok (Some Came)
+abbrev pub acknowledged : List Column → Reply
+acknowledged cs = Ok (Some Acknowledged)
 
-pub one_column_is : (place n : ℕ) (fs : List Field) → n ≡ 1 → n ≡ length fs → one_column place fs ≡ next (columns_of place fs) came
+pub one_column_is : (place n : ℕ) (fs : List Field) → n ≡ 1 → n ≡ length fs → one_column place fs ≡ next (columns_of place fs) acknowledged
 one_column_is place n fs one len =
     let size : length fs ≡ 1 = sym len ∙ one in
-    rw (size, columns_are place fs) (after_if (list_all is_name fs) (map column_of fs) (NotUtf8 place) came)
+    rw (size, columns_are place fs) (after_if (list_all is_name fs) (map column_of fs) (NotUtf8 place) acknowledged)
 
 abbrev pub of_oid : ℕ → List Column → Reply
 of_oid oid cs = Ok (Some (Described oid cs))

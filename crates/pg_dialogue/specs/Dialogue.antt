@@ -6,7 +6,7 @@ use Rattle.pg_dialogue.specs.declared.wire_error.WireError.{WireError}
 use Rattle.pg_dialogue.specs.declared.wire_error.WireError.TheVariants.{OutOfMemory, LinkFault, Ended, BadReply, TooLong}
 use Rattle.pg_dialogue.specs.declared.wanted.Wanted.{Wanted}
 use Rattle.pg_dialogue.specs.declared.wanted.News.{News}
-use Rattle.pg_dialogue.specs.declared.wanted.News.TheVariants.{Came, Shown, Described, Row}
+use Rattle.pg_dialogue.specs.declared.wanted.News.TheVariants.{Acknowledged, Shown, Described, Row}
 use Rattle.pg_dialogue.specs.declared.wanted.Told.{Told}
 use Rattle.pg_dialogue.specs.Messages.{Said, Silent, Broken, Says, behind}
 use Rattle.pg_dialogue.specs.Replies.{Reply, reply}
@@ -21,7 +21,7 @@ pub data Heard : Type 0 where
   Met : (told : Told) → (place : ℕ) → (rest : Said) → Heard
 
 abbrev pub noted : Told → News → Told
-noted t Came = t
+noted t Acknowledged = t
 noted t (Shown vis) = record { head = record { vis = vis; oid = t.head.oid; columns = t.head.columns }; row = t.row }
 noted t (Described oid columns) = record { head = record { vis = t.head.vis; oid = oid; columns = columns }; row = t.row }
 noted t (Row row) = record { head = t.head; row = Some row }

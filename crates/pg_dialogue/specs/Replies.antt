@@ -16,7 +16,7 @@ use Rattle.pg_dialogue.specs.declared.contents.Sent.TheVariants.{Null, Chars}
 use Rattle.pg_dialogue.specs.declared.wanted.Wanted.{Wanted}
 use Rattle.pg_dialogue.specs.declared.wanted.Wanted.TheVariants.{Authentication, Started, Completed, Ready, SnapshotColumn, SnapshotText, TableColumns, TableRow, CopyBoth}
 use Rattle.pg_dialogue.specs.declared.wanted.News.{News}
-use Rattle.pg_dialogue.specs.declared.wanted.News.TheVariants.{Came, Shown, Described, Row}
+use Rattle.pg_dialogue.specs.declared.wanted.News.TheVariants.{Acknowledged, Shown, Described, Row}
 use Rattle.pg_dialogue.specs.Contents.{row_description, data_row, is_copy_both}
 
 -- What a message tells, none where it is passed over; or why it is refused.
@@ -27,8 +27,8 @@ Reply = Result (Option News) WireError
 abbrev pub bad : ℕ → Reply
 bad place = Err (BadReply place)
 
-abbrev pub came_if : Bool → ℕ → Reply
-came_if right place = if right then Ok (Some Came) else bad place
+abbrev pub acknowledged_if : Bool → ℕ → Reply
+acknowledged_if right place = if right then Ok (Some Acknowledged) else bad place
 
 -- ---- each message
 
@@ -41,7 +41,7 @@ abbrev pub error_response : ℕ → List ℕ → WireError
 error_response place payload = error_with place (sqlstate_of payload)
 
 abbrev pub allowed : ℕ → Read ℕ → Reply
-allowed place (Ok x) = if x.0 == 0 then came_if (length x.1 == 0) place else Err (AuthWanted x.0)
+allowed place (Ok x) = if x.0 == 0 then acknowledged_if (length x.1 == 0) place else Err (AuthWanted x.0)
 allowed place (Err left) = bad place
 
 -- Authentication: Int32 code, 0 with nothing behind it where the client is let in; with any other code more is wanted of it
@@ -50,25 +50,25 @@ authentication place kind payload = if kind == 82 then allowed place (int32.read
 
 -- ReadyForQuery: one byte
 abbrev pub ready : ℕ → ℕ → List ℕ → Reply
-ready place kind payload = came_if (kind == 90 && length payload == 1) place
+ready place kind payload = acknowledged_if (kind == 90 && length payload == 1) place
 
 -- ReadyForQuery, before which BackendKeyData may stand
 abbrev pub started : ℕ → ℕ → List ℕ → Reply
 started place kind payload = if kind == 75 then Ok None else ready place kind payload
 
-abbrev pub came_after : ℕ → Result (List ℕ) ℕ → Reply
-came_after place (Ok tag) = Ok (Some Came)
-came_after place (Err left) = bad place
+abbrev pub acknowledged_after : ℕ → Result (List ℕ) ℕ → Reply
+acknowledged_after place (Ok tag) = Ok (Some Acknowledged)
+acknowledged_after place (Err left) = bad place
 
 -- CommandComplete: String tag
 abbrev pub completed : ℕ → ℕ → List ℕ → Reply
-completed place kind payload = if kind == 67 then came_after place (whole string payload) else bad place
+completed place kind payload = if kind == 67 then acknowledged_after place (whole string payload) else bad place
 
 abbrev pub is_name : Field → Bool
 is_name f = is_utf8 f.name
 
 abbrev pub one_column : ℕ → List Field → Reply
-one_column place fields = if length fields == 1 then (if list_all is_name fields then Ok (Some Came) else Err (NotUtf8 place)) else bad place
+one_column place fields = if length fields == 1 then (if list_all is_name fields then Ok (Some Acknowledged) else Err (NotUtf8 place)) else bad place
 
 abbrev pub fields_with : (ℕ → List Field → Reply) → ℕ → Result (List Field) ℕ → Reply
 fields_with next place (Ok fields) = next place fields
@@ -129,7 +129,7 @@ snapshot_text place kind payload = if kind == 68 then text_with place (whole dat
 
 -- CopyBothResponse
 abbrev pub copy_both : ℕ → ℕ → List ℕ → Reply
-copy_both place kind payload = came_if (kind == 87 && is_copy_both payload) place
+copy_both place kind payload = acknowledged_if (kind == 87 && is_copy_both payload) place
 
 -- ---- what a message tells
 

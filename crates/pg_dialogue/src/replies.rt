@@ -4,7 +4,7 @@ ghost use Rattle.std.specs.List.{list_all};
 ghost use Rattle.byte_format.specs.Whole.{whole};
 ghost use Rattle.pg_dialogue.specs.Answers.{Answers};
 ghost use Rattle.pg_dialogue.specs.Contents.{data_row};
-ghost use Rattle.pg_dialogue.specs.Replies.{came_if, authentication, ready, started, completed, one_column, snapshot_column, of_table, table_of, described, table_columns, row_with, table_row, text_with, snapshot_text, error_response, reply_to, reply};
+ghost use Rattle.pg_dialogue.specs.Replies.{acknowledged_if, authentication, ready, started, completed, one_column, snapshot_column, of_table, table_of, described, table_columns, row_with, table_row, text_with, snapshot_text, error_response, reply_to, reply};
 ghost use Rattle.pg_dialogue.specs.Columns.{text_at, columns_of, value_at, values_of};
 
 use crate::contents::{Field, Sent, data_row_of, is_copy_both, row_description_of, text_of};
@@ -18,11 +18,11 @@ use std::alloc::Global;
 /// What a message tells, none where it is passed over; or why it is refused.
 type Reply = Result<Option<News>, WireError>;
 
-fn came_if(place: u64, right: bool) -> Reply
-    ensures { result ≡ came_if right place }
+fn acknowledged_if(place: u64, right: bool) -> Reply
+    ensures { result ≡ acknowledged_if right place }
 {
     if right {
-        Ok(Some(News::Came))
+        Ok(Some(News::Acknowledged))
     } else {
         Err(WireError::BadReply { place })
     }
@@ -35,7 +35,7 @@ fn authentication(place: u64, kind: u8, payload: &[u8]) -> Reply
         return Err(WireError::BadReply { place });
     }
     match u32_at(payload) {
-        Ok((0, rest)) => came_if(place, rest.is_empty()),
+        Ok((0, rest)) => acknowledged_if(place, rest.is_empty()),
         Ok((code, _)) => Err(WireError::AuthWanted { code }),
         Err(ReadError::OutOfMemory) => Err(WireError::OutOfMemory),
         Err(ReadError::Wrong { left: _ }) => Err(WireError::BadReply { place }),
@@ -45,7 +45,7 @@ fn authentication(place: u64, kind: u8, payload: &[u8]) -> Reply
 fn ready(place: u64, kind: u8, payload: &[u8]) -> Reply
     ensures { Answers result (ready place kind payload.now) }
 {
-    came_if(place, kind == b'Z' && payload.len() == 1)
+    acknowledged_if(place, kind == b'Z' && payload.len() == 1)
 }
 
 fn started(place: u64, kind: u8, payload: &[u8]) -> Reply
@@ -64,7 +64,7 @@ fn completed(alloc: Global, place: u64, kind: u8, payload: &[u8]) -> Reply
         return Err(WireError::BadReply { place });
     }
     match text_of(alloc, payload) {
-        Ok(_) => Ok(Some(News::Came)),
+        Ok(_) => Ok(Some(News::Acknowledged)),
         Err(ReadError::OutOfMemory) => Err(WireError::OutOfMemory),
         Err(ReadError::Wrong { left: _ }) => Err(WireError::BadReply { place }),
     }
@@ -100,7 +100,7 @@ fn one_column(alloc: Global, place: u64, fields: Vec<Field>) -> Reply
         return Err(WireError::BadReply { place });
     }
     match columns_of(alloc, place, fields) {
-        Ok(_) => Ok(Some(News::Came)),
+        Ok(_) => Ok(Some(News::Acknowledged)),
         Err(error) => Err(error),
     }
 }
@@ -269,7 +269,7 @@ fn reply_to(alloc: Global, wanted: Wanted, place: u64, kind: u8, payload: &[u8])
         Wanted::SnapshotText => snapshot_text(alloc, place, kind, payload),
         Wanted::TableColumns => table_columns(alloc, place, kind, payload),
         Wanted::TableRow => table_row(alloc, place, kind, payload),
-        Wanted::CopyBoth => came_if(place, kind == b'W' && is_copy_both(payload)),
+        Wanted::CopyBoth => acknowledged_if(place, kind == b'W' && is_copy_both(payload)),
     }
 }
 

@@ -40,7 +40,7 @@ impl Told {
         ensures { self.new ≡ noted self.old news }
     {
         match news {
-            News::Came => {}
+            News::Acknowledged => {}
             News::Shown(vis) => self.head.vis = vis,
             News::Described { oid, columns } => {
                 self.head.oid = oid;

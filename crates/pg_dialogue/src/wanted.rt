@@ -28,8 +28,8 @@ pub(crate) enum Wanted {
 /// What a message tells that the client waited for.
 #[derive(Drop)]
 pub(crate) enum News {
-    /// That it came.
-    Came,
+    /// That it is done, and nothing besides.
+    Acknowledged,
     /// Which transactions the snapshot shows.
     Shown(Text),
     /// The table's OID and columns.

@@ -1,7 +1,6 @@
 -- A wrong byte lies in the text.
-use Rattle.std.proofs.Common.{◌≡◌, ℕ, zero, suc, ◌+◌, ◌-◌, ◌*◌, ◌≤◌, zero-le, le_refl, le_trans, Bool, true, false, cond, ◌&&◌, eqb, leb, ltb, List, [], ◌∷◌, length, Result, Ok, Err, MatchResult, IfErr, refl, arith}
+use Rattle.std.proofs.Common.{◌≡◌, ℕ, zero, suc, ◌+◌, ◌-◌, ◌*◌, ◌≤◌, zero-le, le_refl, le_trans, Bool, true, false, cond, ◌&&◌, eqb, leb, ltb, List, [], ◌∷◌, length, Result, Ok, Err, MatchResult, IfErr, arith}
 use Rattle.std.proofs.lemmas.Result.{IfErr-at_err}
-use Rattle.shape_base.specs.Visibility.{Visibility}
 use Rattle.snapshot_merge.specs.VisText.{Read, ◌>>=◌, is_digit, digits_at, decimal_at, if_within, number_at, byte_at, one_more, after_number, numbers_within, listed_at, visibility_of}
 
 -- what is left after a part, or from the wrong byte on, is at most so much

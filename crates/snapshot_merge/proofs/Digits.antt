@@ -1,5 +1,5 @@
 -- The digits of a number, one by one.
-use Rattle.std.proofs.Common.{◌≡◌, ℕ, suc, ◌+◌, ◌-◌, ◌*◌, ◌≤◌, ◌<◌, true, false, List, [], ◌∷◌, length, Result, Ok, Err, refl, lt-ltb, le-ltb, arith}
+use Rattle.std.proofs.Common.{◌≡◌, ℕ, ◌+◌, ◌-◌, ◌*◌, ◌≤◌, ◌<◌, true, false, List, [], ◌∷◌, length, Ok, Err, refl, lt-ltb, le-ltb}
 use Rattle.snapshot_merge.specs.VisText.{is_digit, digits_at}
 
 pub digits_end : (n : ℕ) (rest : List ℕ) → rest ≡ [] → digits_at n rest ≡ Ok (n, rest)

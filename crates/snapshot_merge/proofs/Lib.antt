@@ -3,3 +3,4 @@ pub mod Digits
 pub mod Bounds
 pub mod Rising
 pub mod Sums
+pub mod Listed

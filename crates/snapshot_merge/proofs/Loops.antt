@@ -1,9 +1,8 @@
 -- What loops have read so far, and what they still read.
-use Rattle.std.proofs.Common.{◌≡◌, ℕ, zero, suc, ◌+◌, ◌-◌, ◌≤◌, ◌<◌, Bool, true, false, cond, eqb, List, [], ◌∷◌, ◌++◌, length, Result, Ok, Err, refl, sym, ap, ◌∙◌, append_assoc, eqb-true, true≢false, arith}
-use Rattle.std.proofs.lemmas.List.{append-nil}
+use Rattle.std.proofs.Common.{◌≡◌, ℕ, suc, ◌+◌, ◌-◌, ◌≤◌, ◌<◌, Bool, true, false, cond, eqb, List, [], ◌∷◌, ◌++◌, length, Result, Ok, Err, refl, sym, ap, ◌∙◌, append_assoc, eqb-true, true≢false, arith}
 use Rattle.snapshot_merge.specs.declared.reading.Fault.{Fault}
 use Rattle.snapshot_merge.specs.declared.reading.Fault.TheVariants as faults
-use Rattle.snapshot_merge.specs.VisText.{Read, ◌>>=◌, number_at, byte_at, one_more, after_number, numbers_within}
+use Rattle.snapshot_merge.specs.VisText.{◌>>=◌, number_at, byte_at, one_more, after_number, numbers_within}
 use Rattle.snapshot_merge.specs.Answers.{Fails}
 
 -- what was read before, and what is still read

@@ -1,7 +1,7 @@
 -- Numbers that are read rise, between their bounds.
 use Rattle.std.proofs.Common.{◌≡◌, ℕ, zero, suc, ◌+◌, ◌-◌, ◌≤◌, ◌<◌, Bool, true, false, cond, ◌&&◌, leb, eqb, List, [], ◌∷◌, length, Result, Ok, Err, IfOk, refl, subst, leb-true, le-leb, lt-ltb, arith}
 use Rattle.std.proofs.lemmas.Result.{IfOk-at_ok}
-use Rattle.shape_base.specs.Visibility.{Visibility, IsVisibility, rise_between}
+use Rattle.shape_base.specs.Visibility.{IsVisibility, rise_between}
 use Rattle.snapshot_merge.specs.VisText.{Read, ◌>>=◌, decimal_at, if_within, number_at, one_more, after_number, numbers_within, listed_at}
 
 abbrev IsWithin : ℕ → ℕ → Read ℕ → Type 0

@@ -1,5 +1,5 @@
 -- Sums of bytes that end at 2^64 - 1.
-use Rattle.std.proofs.Common.{◌≡◌, ℕ, ◌+◌, min, List, [], ◌∷◌, ◌++◌, refl, sym, ap, ◌∙◌, arith}
+use Rattle.std.proofs.Common.{◌≡◌, ℕ, ◌+◌, min, List, [], ◌∷◌, ◌++◌, sym, ap, ◌∙◌, arith}
 use Rattle.shape_base.specs.declared.change.Tx.{Tx}
 use Rattle.snapshot_merge.specs.Buffer.{bytes_of, capped}
 

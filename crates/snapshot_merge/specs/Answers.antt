@@ -1,5 +1,5 @@
 -- What functions answer that may run out of memory.
-use Rattle.std.specs.Prelude.{◌≡◌, ◌+◌, ◌-◌, ◌≤◌, ℕ, List, length, Result, Ok, Err}
+use Rattle.std.specs.Prelude.{◌≡◌, ◌-◌, ◌≤◌, ℕ, List, length, Result, Ok, Err}
 use Rattle.shape_base.specs.Visibility.{Visibility}
 use Rattle.snapshot_merge.specs.declared.reading.Fault.{Fault}
 use Rattle.snapshot_merge.specs.declared.reading.Fault.TheVariants as faults

@@ -1,5 +1,5 @@
 -- Transactions that wait, and their bytes.
-use Rattle.std.specs.Prelude.{ℕ, zero, ◌+◌, min, List, [], ◌∷◌}
+use Rattle.std.specs.Prelude.{ℕ, ◌+◌, min, List, [], ◌∷◌}
 use Rattle.shape_base.specs.declared.change.Tx.{Tx}
 
 -- the bytes of the kept messages of transactions

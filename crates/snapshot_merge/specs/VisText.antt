@@ -1,6 +1,6 @@
 -- The texts of pg_current_snapshot (PostgreSQL manual, 9.27.8 Transaction ID and Snapshot Information Functions): `xmin:xmax:list`, three parts of canonical decimals
 -- of 64 bits, the list empty or joined by commas.
-use Rattle.std.specs.Prelude.{◌≡◌, ℕ, zero, suc, ◌+◌, ◌-◌, ◌*◌, List, [], ◌∷◌, length, Bool, ◌&&◌, ◌==◌, nat_lt, nat_le, if◌then◌else◌, Result, Ok, Err}
+use Rattle.std.specs.Prelude.{ℕ, zero, suc, ◌+◌, ◌-◌, ◌*◌, List, [], ◌∷◌, length, Bool, ◌&&◌, ◌==◌, nat_lt, nat_le, if◌then◌else◌, Result, Ok, Err}
 use Rattle.shape_base.specs.Visibility.{Visibility}
 
 -- A part and the bytes after it; or how many bytes there are from the wrong one on.

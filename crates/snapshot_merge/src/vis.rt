@@ -1,5 +1,6 @@
 //! Which transactions a snapshot shows.
-ghost use Rattle.std.specs.Prelude.{◌≡◌, ◌<◌, Some};
+ghost use Rattle.std.specs.Prelude.{◌≡◌, ◌<◌, Some, ◌==◌};
+ghost use Rattle.std.specs.List.{list_any};
 ghost use Rattle.shape_base.specs.Visibility.{is_visible, is_visible_id};
 ghost use Rattle.snapshot_merge.specs.VisText.{visibility_of};
 ghost use Rattle.snapshot_merge.specs.Answers.{Reads};
@@ -71,12 +72,19 @@ impl Vis {
         self.shows(self.xmax - behind)
     }
 
+    /// Whether this id is listed, in the logarithm of their number.
+    fn is_listed(&self, id: u64) -> bool
+        ensures { result ≡ list_any (λ l. id == l) self.now.listed }
+    {
+        self.listed.binary_search(&id).is_ok()
+    }
+
     /// Whether a transaction with this id of 64 bits, which is below `xmax`, is visible.
     fn shows(&self, id: u64) -> bool
         requires { id < self.now.xmax }
         ensures { result ≡ is_visible_id self.now (Some id) }
     {
-        id < self.xmin || !self.listed.contains(&id)
+        id < self.xmin || !self.is_listed(id)
     }
 
     /// The first id of a transaction that may be under way: those below it are finished. It takes no memory.

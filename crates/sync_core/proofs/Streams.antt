@@ -24,10 +24,10 @@ use Rattle.pgout.specs.Faults.{IsReading}
 use Rattle.pgout.specs.Grammar.{message}
 use Rattle.pg_wire.specs.declared.frame.FrameError.TheVariants as faults
 use Rattle.sync_core.specs.declared.stream.Stream as program
-use Rattle.sync_core.specs.declared.stream.Came as declared
-use Rattle.sync_core.specs.declared.stream.Came.TheVariants as came
+use Rattle.sync_core.specs.declared.stream.Outcome as declared
+use Rattle.sync_core.specs.declared.stream.Outcome.TheVariants as outcomes
 use Rattle.sync_core.specs.declared.stream.Refusal.{Refusal}
-use Rattle.sync_core.specs.Stream.{Stream, begun, anew, Item, Came, Unread, Ended, Faulty, messages_in, message_then, stretch_of, done_in, commits_of, Fault, frame_fault, assembly_name, fault_by, fault_after, fault_of, is_end, is_over, item_by, item_of, with_one, with_item, with_items, in_frame, in_frames, in_refusal, Framed, with_piece, new_fault}
+use Rattle.sync_core.specs.Stream.{Stream, begun, anew, Item, Read, Unread, Ended, Faulty, messages_in, message_then, stretch_of, done_in, commits_of, Fault, frame_fault, assembly_name, fault_by, fault_after, fault_of, is_end, is_over, item_by, item_of, with_one, with_item, with_items, in_frame, in_frames, in_refusal, Framed, with_piece, new_fault}
 use Rattle.pg_wire.specs.FrameList.{Held, held_within, held_from, frames_of}
 use Rattle.pg_wire.specs.Cutting.{Took, after, given}
 use Rattle.pg_wire.specs.Reached.{Reached}
@@ -37,7 +37,7 @@ use Rattle.sync_core.specs.Streaming.{HasCome, AreTaken, Stands, Brings, TakesIt
 -- ---- messages
 
 then-append : (i : Item) (xs ys : List Message) → message_then i (xs ++ ys) ≡ message_then i xs ++ ys
-then-append (Came m) xs ys = refl
+then-append (Read m) xs ys = refl
 then-append Unread xs ys = refl
 then-append Ended xs ys = refl
 then-append (Faulty e) xs ys = refl
@@ -61,7 +61,7 @@ or_none false b h = (refl, h)
 pub fault-append : (tables : List Served) (done : List Stretch) (before : List Message) (items more : List Item) → fault_after tables done before items ≡ None → list_any is_end items ≡ false
     → fault_after tables done before (items ++ more) ≡ fault_after tables done (before ++ messages_in items) more
 fault-append tables done before [] more h k = ap (λ (ms : List Message). fault_after tables done ms more) (sym (append-nil before))
-fault-append tables done before (Came m ∷ items) more h k =
+fault-append tables done before (Read m ∷ items) more h k =
     let p = by_none (due_next tables done before m) (length before) (fault_after tables done (before ++ m ∷ []) items) (fault_after tables done (before ++ m ∷ []) (items ++ more)) h in
     p.1 ∙ fault-append tables done (before ++ m ∷ []) items more p.0 k ∙ ap (λ (ms : List Message). fault_after tables done ms more) (append_assoc before (m ∷ []) (messages_in items))
 fault-append tables done before (Unread ∷ items) more h k = cc
@@ -108,7 +108,7 @@ quiet_messages : (s : Stream) (i : Item) → messages_in (i ∷ []) ≡ [] → m
 quiet_messages s i none = sym (messages-append s.now (i ∷ []) ∙ ap (λ (ms : List Message). messages_in s.now ++ ms) none ∙ append-nil (messages_in s.now))
 
 -- one that ends the stream, or is refused
-pub quiet_one : (tables : List Served) (s : Stream) (i : Item) (c : declared.Came) (m new : program.Stream) → HasCome tables m s → m.over ≡ false → messages_in (i ∷ []) ≡ [] → new.assembler ≡ m.assembler → new.over ≡ true → txs_in c ≡ []
+pub quiet_one : (tables : List Served) (s : Stream) (i : Item) (c : declared.Outcome) (m new : program.Stream) → HasCome tables m s → m.over ≡ false → messages_in (i ∷ []) ≡ [] → new.assembler ≡ m.assembler → new.over ≡ true → txs_in c ≡ []
     → fault_here tables s i ≡ fault_in (refusal_in c) → (is_end i || is_some (fault_in (refusal_in c))) ≡ true → TakesItem tables s i c new
 quiet_one tables s i c m new h goes none kept over txs fault ends =
     let o = open_from tables s (sym h.over ∙ goes) in
@@ -136,46 +136,46 @@ not_memory (errors.UnsentValue column) h = refl
 not_memory (errors.NotUtf8 place) h = refl
 not_memory (errors.TxTooLarge bytes limit) h = refl
 
-one_message : (s : Stream) (m : Message) → messages_in s.now ++ m ∷ [] ≡ messages_in (s.now ++ Came m ∷ [])
-one_message s m = sym (messages-append s.now (Came m ∷ []))
+one_message : (s : Stream) (m : Message) → messages_in s.now ++ m ∷ [] ≡ messages_in (s.now ++ Read m ∷ [])
+one_message s m = sym (messages-append s.now (Read m ∷ []))
 
 -- a message was taken, and answered
-pub message_taken : (tables : List Served) (s : Stream) (m : Message) (fed : Fed) (c : declared.Came) (old new : program.Stream) → HasCome tables old s → old.over ≡ false → TookOne tables (done_in s) (messages_in s.now) m (Ok fed) new.assembler
-    → new.over ≡ false → new.count ≡ old.count + 1 → if_given (Ok fed) [] ≡ txs_in c → refusal_in c ≡ None → TakesItem tables s (Came m) c new
+pub message_taken : (tables : List Served) (s : Stream) (m : Message) (fed : Fed) (c : declared.Outcome) (old new : program.Stream) → HasCome tables old s → old.over ≡ false → TookOne tables (done_in s) (messages_in s.now) m (Ok fed) new.assembler
+    → new.over ≡ false → new.count ≡ old.count + 1 → if_given (Ok fed) [] ≡ txs_in c → refusal_in c ≡ None → TakesItem tables s (Read m) c new
 message_taken tables s m fed c old new h goes t over count txs none =
     let o = open_from tables s (sym h.over ∙ goes) in
-    let fault : fault_here tables s (Came m) ≡ None = ap (λ (a : Answer Fed). fault_by a (length (messages_in s.now)) None) (sym t.due) in
+    let fault : fault_here tables s (Read m) ≡ None = ap (λ (a : Answer Fed). fault_by a (length (messages_in s.now)) None) (sym t.due) in
     let size = length-append (messages_in s.now) (m ∷ []) in
     record {
       come = record {
         taken = subst (λ (ms : List Message). HasTaken tables (done_in s) ms new.assembler) (one_message s m) t.taken;
-        over = over ∙ sym (over_one tables s (Came m) o ∙ ap (λ (f : Option Fault). is_some f) fault);
+        over = over ∙ sym (over_one tables s (Read m) o ∙ ap (λ (f : Option Fault). is_some f) fault);
         count = λ e. count ∙ ap (λ (n : ℕ). n + 1) (h.count goes) ∙ sym size ∙ ap (length {A = Message}) (one_message s m);
       };
       brings = record {
         commits = ap (λ (ms : List Message). shown tables (done_in s ++ sent ms ∷ [])) (sym (one_message s m)) ∙ t.grown ∙ ap (λ (txs : List Tx). commits_of tables s ++ txs) txs;
-        fault = λ e. fault_one tables s (Came m) o ∙ fault ∙ ap fault_in (sym none);
+        fault = λ e. fault_one tables s (Read m) o ∙ fault ∙ ap fault_in (sym none);
       };
     }
 
 -- a message was refused
 pub message_refused : (tables : List Served) (s : Stream) (m : Message) (e : AssembleError) (r : Refusal) (old new : program.Stream) → HasCome tables old s → old.over ≡ false → (e ≡ errors.OutOfMemory → ⊥)
-    → MatchBool (is_memory e) (Unit {0}) (TookOne tables (done_in s) (messages_in s.now) m (Err e) new.assembler) → new.over ≡ true → r ≡ record { name = assembly_name e; place = old.count } → TakesItem tables s (Came m) (came.Refused r) new
+    → MatchBool (is_memory e) (Unit {0}) (TookOne tables (done_in s) (messages_in s.now) m (Err e) new.assembler) → new.over ≡ true → r ≡ record { name = assembly_name e; place = old.count } → TakesItem tables s (Read m) (outcomes.Refused r) new
 message_refused tables s m e r old new h goes not took over is =
     let o = open_from tables s (sym h.over ∙ goes) in
     let t : TookOne tables (done_in s) (messages_in s.now) m (Err e) new.assembler = subst (λ (b : Bool). MatchBool b (Unit {0}) (TookOne tables (done_in s) (messages_in s.now) m (Err e) new.assembler)) (not_memory e not) took in
     let place : length (messages_in s.now) ≡ r.place = sym (h.count goes) ∙ ap (λ (x : Refusal). x.place) (sym is) in
-    let fault : fault_here tables s (Came m) ≡ fault_in (Some r) =
+    let fault : fault_here tables s (Read m) ≡ fault_in (Some r) =
     ap (λ (a : Answer Fed). fault_by a (length (messages_in s.now)) None) (sym t.due) ∙ ap (λ (n : ℕ). Some (record { name = assembly_name e; place = n })) place ∙ ap (λ (x : Refusal). Some (record { name = x.name; place = r.place })) (sym is) in
     record {
       come = record {
         taken = subst (λ (ms : List Message). HasTaken tables (done_in s) ms new.assembler) (one_message s m) t.taken;
-        over = over ∙ sym (over_one tables s (Came m) o ∙ ap (λ (f : Option Fault). is_some f) fault);
+        over = over ∙ sym (over_one tables s (Read m) o ∙ ap (λ (f : Option Fault). is_some f) fault);
         count = λ x. cc;
       };
       brings = record {
         commits = ap (λ (ms : List Message). shown tables (done_in s ++ sent ms ∷ [])) (sym (one_message s m)) ∙ t.grown;
-        fault = λ x. fault_one tables s (Came m) o ∙ fault;
+        fault = λ x. fault_one tables s (Read m) o ∙ fault;
       };
     }
 
@@ -225,7 +225,7 @@ later_none : (r : Option Refusal) → later_refusal None r ≡ r
 later_none None = refl
 later_none (Some r) = refl
 
-pub received_one : (tables : List Served) (s : Stream) (i : Item) (c : declared.Came) (old new : program.Stream) (b : Brought) → Stands tables old s → old.over ≡ false → new.frames ≡ old.frames → TakesItem tables s i c new
+pub received_one : (tables : List Served) (s : Stream) (i : Item) (c : declared.Outcome) (old new : program.Stream) (b : Brought) → Stands tables old s → old.over ≡ false → new.frames ≡ old.frames → TakesItem tables s i c new
     → b ≡ record { txs = [] ++ txs_in c; refusal = later_refusal None (refusal_in c) } → Receives tables s (with_item tables s i) b new
 received_one tables s i c old new b st goes kept t is =
     let o = open_from tables s (sym st.come.over ∙ goes) in
@@ -281,7 +281,7 @@ fed_stands tables s bytes x m is come frames =
     }
 
 -- what one frame brings, as items
-items_one : (tables : List Served) (s : Stream) (items : List Item) (c : declared.Came) (new : program.Stream) → IsOpen tables s → TakesItems tables s items c new → HasCome tables new (with_items tables s items) × Brings tables s (with_items tables s items) (txs_in c) (refusal_in c)
+items_one : (tables : List Served) (s : Stream) (items : List Item) (c : declared.Outcome) (new : program.Stream) → IsOpen tables s → TakesItems tables s items c new → HasCome tables new (with_items tables s items) × Brings tables s (with_items tables s items) (txs_in c) (refusal_in c)
 items_one tables s [] c new o t = (t.0, record { commits = sym (append-nil (commits_of tables s)) ∙ ap (λ (txs : List Tx). commits_of tables s ++ txs) (sym t.1); fault = λ e. o.fault ∙ ap fault_in (sym t.2) })
 items_one tables s (i ∷ []) c new o t = let next = open_item tables s i (is_open tables s o) in (subst (λ (x : Stream). HasCome tables new x) (sym next) t.1.come, subst (λ (x : Stream). Brings tables s x (txs_in c) (refusal_in c)) (sym next) t.1.brings)
 items_one tables s (i ∷ j ∷ items) c new o t = cc
@@ -311,7 +311,7 @@ mid_ends tables s bytes before m new b old none mid come goes took all =
     }
 
 -- one frame more, after which the stream goes on
-pub mid_more : (tables : List Served) (s : Stream) (before : List Frame) (fed : List ℕ) (f : Frame) (c : declared.Came) (m new : program.Stream) (b b' : Brought) → (mid : Mid tables s before fed m b) → Took fed ((before ++ mid.taken) ++ f ∷ []) new.frames
+pub mid_more : (tables : List Served) (s : Stream) (before : List Frame) (fed : List ℕ) (f : Frame) (c : declared.Outcome) (m new : program.Stream) (b b' : Brought) → (mid : Mid tables s before fed m b) → Took fed ((before ++ mid.taken) ++ f ∷ []) new.frames
     → TakesItems tables (with_items tables s (flat_map in_frame mid.taken)) (in_frame f) c new → new.over ≡ false → b' ≡ record { txs = b.txs ++ txs_in c; refusal = later_refusal b.refusal (refusal_in c) } → Mid tables s before fed new b'
 mid_more tables s before fed f c m new b b' mid took takes goes is =
     let here = with_items tables s (flat_map in_frame mid.taken) in
@@ -330,7 +330,7 @@ mid_more tables s before fed f c m new b b' mid took takes goes is =
     }
 
 -- a frame after which the stream is over
-pub mid_over : (tables : List Served) (s : Stream) (bytes : List ℕ) (before : List Frame) (f : Frame) (c : declared.Came) (m new : program.Stream) (b b' : Brought) → frames_of s.fed ≡ record { frames = before; refusal = None } → fault_of tables s ≡ None → (mid : Mid tables s before (s.fed ++ bytes) m b)
+pub mid_over : (tables : List Served) (s : Stream) (bytes : List ℕ) (before : List Frame) (f : Frame) (c : declared.Outcome) (m new : program.Stream) (b b' : Brought) → frames_of s.fed ≡ record { frames = before; refusal = None } → fault_of tables s ≡ None → (mid : Mid tables s before (s.fed ++ bytes) m b)
     → Took (s.fed ++ bytes) ((before ++ mid.taken) ++ f ∷ []) new.frames → TakesItems tables (with_items tables s (flat_map in_frame mid.taken)) (in_frame f) c new → new.over ≡ true
     → b' ≡ record { txs = b.txs ++ txs_in c; refusal = later_refusal b.refusal (refusal_in c) } → Receives tables s (with_piece tables s (Framed bytes)) b' new
 mid_over tables s bytes before f c m new b b' old none mid took takes over is =
@@ -357,7 +357,7 @@ mid_over tables s bytes before f c m new b b' old none mid took takes over is =
     }
 
 -- the frames are refused
-pub mid_bad : (tables : List Served) (s : Stream) (bytes : List ℕ) (before : List Frame) (e : FrameError) (c : declared.Came) (m new : program.Stream) (b b' : Brought) → frames_of s.fed ≡ record { frames = before; refusal = None } → fault_of tables s ≡ None → (mid : Mid tables s before (s.fed ++ bytes) m b)
+pub mid_bad : (tables : List Served) (s : Stream) (bytes : List ℕ) (before : List Frame) (e : FrameError) (c : declared.Outcome) (m new : program.Stream) (b b' : Brought) → frames_of s.fed ≡ record { frames = before; refusal = None } → fault_of tables s ≡ None → (mid : Mid tables s before (s.fed ++ bytes) m b)
     → frames_of (s.fed ++ bytes) ≡ record { frames = before ++ mid.taken; refusal = Some e } → TakesItem tables (with_items tables s (flat_map in_frame mid.taken)) (Faulty e) c new → new.over ≡ true
     → b' ≡ record { txs = b.txs ++ txs_in c; refusal = later_refusal b.refusal (refusal_in c) } → Receives tables s (with_piece tables s (Framed bytes)) b' new
 mid_bad tables s bytes before e c m new b b' old none mid all x over is =
@@ -411,21 +411,21 @@ come_kept tables s m new h a o n = record {
 
 -- bytes that are no message
 pub unread_one : (tables : List Served) (s : Stream) (bytes : List ℕ) (left : ℕ) (r : Refusal) (m new : program.Stream) → HasCome tables m s → m.over ≡ false → whole message bytes ≡ Err left → new.assembler ≡ m.assembler → new.over ≡ true
-    → r ≡ record { name = codes "bad_message"; place = m.count } → TakesItem tables s (item_of bytes) (came.Refused r) new
+    → r ≡ record { name = codes "bad_message"; place = m.count } → TakesItem tables s (item_of bytes) (outcomes.Refused r) new
 unread_one tables s bytes left r m new h goes none kept over is =
     let item : Unread ≡ item_of bytes = sym (ap item_by none) in
     let place : length (messages_in s.now) ≡ r.place = sym (h.count goes) ∙ ap (λ (x : Refusal). x.place) (sym is) in
     let fault : fault_here tables s Unread ≡ fault_in (Some r) = ap (λ (n : ℕ). Some (record { name = codes "bad_message"; place = n })) place ∙ ap (λ (x : Refusal). Some (record { name = x.name; place = r.place })) (sym is) in
-    subst (λ (i : Item). TakesItem tables s i (came.Refused r) new) item (quiet_one tables s Unread (came.Refused r) m new h goes refl kept over refl fault refl)
+    subst (λ (i : Item). TakesItem tables s i (outcomes.Refused r) new) item (quiet_one tables s Unread (outcomes.Refused r) m new h goes refl kept over refl fault refl)
 
 -- the end of the stream
-pub ended_one : (tables : List Served) (s : Stream) (m new : program.Stream) → HasCome tables m s → m.over ≡ false → new.assembler ≡ m.assembler → new.over ≡ true → TakesItem tables s Ended came.Ended new
-ended_one tables s m new h goes kept over = quiet_one tables s Ended came.Ended m new h goes refl kept over refl refl refl
+pub ended_one : (tables : List Served) (s : Stream) (m new : program.Stream) → HasCome tables m s → m.over ≡ false → new.assembler ≡ m.assembler → new.over ≡ true → TakesItem tables s Ended outcomes.Ended new
+ended_one tables s m new h goes kept over = quiet_one tables s Ended outcomes.Ended m new h goes refl kept over refl refl refl
 
 -- a refusal of the frames
 pub faulty_one : (tables : List Served) (s : Stream) (e : FrameError) (r : Refusal) (m new : program.Stream) → HasCome tables m s → m.over ≡ false → new.assembler ≡ m.assembler → new.over ≡ true
-    → r ≡ record { name = (frame_fault e).name; place = (frame_fault e).place } → TakesItem tables s (Faulty e) (came.Refused r) new
-faulty_one tables s e r m new h goes kept over is = quiet_one tables s (Faulty e) (came.Refused r) m new h goes refl kept over refl (ap (λ (x : Refusal). Some (record { name = x.name; place = x.place })) (sym is)) refl
+    → r ≡ record { name = (frame_fault e).name; place = (frame_fault e).place } → TakesItem tables s (Faulty e) (outcomes.Refused r) new
+faulty_one tables s e r m new h goes kept over is = quiet_one tables s (Faulty e) (outcomes.Refused r) m new h goes refl kept over refl (ap (λ (x : Refusal). Some (record { name = x.name; place = x.place })) (sym is)) refl
 
 pub took_none : (fed : List ℕ) (taken : List Frame) (r : Result (Option Frame) FrameError) (new : Reached) → r ≡ Ok None → Took fed (taken ++ given r) new → Took fed taken new
 took_none fed taken r new is h = subst (λ (fs : List Frame). Took fed fs new) (append-nil taken) (subst (λ (x : Result (Option Frame) FrameError). Took fed (taken ++ given x) new) is h)
@@ -467,38 +467,38 @@ pub record IsNoFrame (tables : List Served) (s : Stream) (fed : List ℕ) (taken
   pub took : Took fed taken new.frames
   pub all : frames_of fed ≡ record { frames = taken; refusal = None }
 
-pub no_frame : (tables : List Served) (s : Stream) (fed : List ℕ) (taken : List Frame) (o : Option declared.Came) (new : program.Stream) → TakesFrame tables s fed taken o new → ((c : declared.Came) → o ≡ Some c → ⊥) → IsNoFrame tables s fed taken new
+pub no_frame : (tables : List Served) (s : Stream) (fed : List ℕ) (taken : List Frame) (o : Option declared.Outcome) (new : program.Stream) → TakesFrame tables s fed taken o new → ((c : declared.Outcome) → o ≡ Some c → ⊥) → IsNoFrame tables s fed taken new
 no_frame tables s fed taken None new (NoFrame h t e) none = record { come = h; took = t; all = e }
 no_frame tables s fed taken (Some c) new (OneFrame f t i) none = absurd (none c refl)
 no_frame tables s fed taken (Some c) new (BadFrames e f i) none = absurd (none c refl)
 
-pub data IsSomeFrame (tables : List Served) (s : Stream) (fed : List ℕ) (taken : List Frame) (c : declared.Came) (new : program.Stream) : Type 0 where
+pub data IsSomeFrame (tables : List Served) (s : Stream) (fed : List ℕ) (taken : List Frame) (c : declared.Outcome) (new : program.Stream) : Type 0 where
   Whole : (f : Frame) → Took fed (taken ++ f ∷ []) new.frames → TakesItems tables s (in_frame f) c new → IsSomeFrame tables s fed taken c new
   Bad : (e : FrameError) → frames_of fed ≡ record { frames = taken; refusal = Some e } → TakesItem tables s (Faulty e) c new → IsSomeFrame tables s fed taken c new
 
-frame_there : (tables : List Served) (s : Stream) (fed : List ℕ) (taken : List Frame) (c : declared.Came) (new : program.Stream) → TakesFrame tables s fed taken (Some c) new → IsSomeFrame tables s fed taken c new
+frame_there : (tables : List Served) (s : Stream) (fed : List ℕ) (taken : List Frame) (c : declared.Outcome) (new : program.Stream) → TakesFrame tables s fed taken (Some c) new → IsSomeFrame tables s fed taken c new
 frame_there tables s fed taken c new (OneFrame f t i) = Whole f t i
 frame_there tables s fed taken c new (BadFrames e f i) = Bad e f i
 
-pub some_frame : (tables : List Served) (s : Stream) (fed : List ℕ) (taken : List Frame) (o : Option declared.Came) (c : declared.Came) (new : program.Stream) → o ≡ Some c → TakesFrame tables s fed taken o new → IsSomeFrame tables s fed taken c new
-some_frame tables s fed taken o c new is t = frame_there tables s fed taken c new (subst (λ (x : Option declared.Came). TakesFrame tables s fed taken x new) is t)
+pub some_frame : (tables : List Served) (s : Stream) (fed : List ℕ) (taken : List Frame) (o : Option declared.Outcome) (c : declared.Outcome) (new : program.Stream) → o ≡ Some c → TakesFrame tables s fed taken o new → IsSomeFrame tables s fed taken c new
+some_frame tables s fed taken o c new is t = frame_there tables s fed taken c new (subst (λ (x : Option declared.Outcome). TakesFrame tables s fed taken x new) is t)
 
-bad_over : (tables : List Served) (s : Stream) (e : FrameError) (c : declared.Came) (new : program.Stream) → IsOpen tables s → TakesItem tables s (Faulty e) c new → new.over ≡ true
+bad_over : (tables : List Served) (s : Stream) (e : FrameError) (c : declared.Outcome) (new : program.Stream) → IsOpen tables s → TakesItem tables s (Faulty e) c new → new.over ≡ true
 bad_over tables s e c new o t = t.come.over ∙ over_one tables s (Faulty e) o
 
 absurd_over : {A : Type 0} (b : Bool) → b ≡ true → b ≡ false → A
 absurd_over true over on = absurd (true≢false on)
 absurd_over false over on = absurd (true≢false (sym over))
 
-pub loop_ends : (tables : List Served) (s : Stream) (bytes : List ℕ) (start m new : program.Stream) (b : Brought) (o : Option declared.Came) (st : Stands tables start s) (goes : start.over ≡ false) (mid : Mid tables s (st.frames goes).0 (s.fed ++ bytes) m b)
-    → ((s' : Stream) (taken : List Frame) → HasCome tables m s' → Took (s.fed ++ bytes) taken m.frames → TakesFrame tables s' (s.fed ++ bytes) taken o new) → ((c : declared.Came) → o ≡ Some c → ⊥)
+pub loop_ends : (tables : List Served) (s : Stream) (bytes : List ℕ) (start m new : program.Stream) (b : Brought) (o : Option declared.Outcome) (st : Stands tables start s) (goes : start.over ≡ false) (mid : Mid tables s (st.frames goes).0 (s.fed ++ bytes) m b)
+    → ((s' : Stream) (taken : List Frame) → HasCome tables m s' → Took (s.fed ++ bytes) taken m.frames → TakesFrame tables s' (s.fed ++ bytes) taken o new) → ((c : declared.Outcome) → o ≡ Some c → ⊥)
     → Receives tables s (with_piece tables s (Framed bytes)) b new
 loop_ends tables s bytes start m new b o st goes mid takes none =
     let here = with_items tables s (flat_map in_frame mid.taken) in
     let n = no_frame tables here (s.fed ++ bytes) ((st.frames goes).0 ++ mid.taken) o new (takes here ((st.frames goes).0 ++ mid.taken) mid.come mid.took) none in
     mid_ends tables s bytes (st.frames goes).0 m new b (st.frames goes).2 (open_from tables s (sym st.come.over ∙ goes)).fault mid n.come (n.come.over ∙ sym mid.come.over ∙ mid.goes) n.took n.all
 
-pub loop_over : (tables : List Served) (s : Stream) (bytes : List ℕ) (start m new : program.Stream) (b b' : Brought) (o : Option declared.Came) (c : declared.Came) (st : Stands tables start s) (goes : start.over ≡ false) (mid : Mid tables s (st.frames goes).0 (s.fed ++ bytes) m b)
+pub loop_over : (tables : List Served) (s : Stream) (bytes : List ℕ) (start m new : program.Stream) (b b' : Brought) (o : Option declared.Outcome) (c : declared.Outcome) (st : Stands tables start s) (goes : start.over ≡ false) (mid : Mid tables s (st.frames goes).0 (s.fed ++ bytes) m b)
     → ((s' : Stream) (taken : List Frame) → HasCome tables m s' → Took (s.fed ++ bytes) taken m.frames → TakesFrame tables s' (s.fed ++ bytes) taken o new) → o ≡ Some c → new.over ≡ true
     → b' ≡ record { txs = b.txs ++ txs_in c; refusal = later_refusal b.refusal (refusal_in c) } → Receives tables s (with_piece tables s (Framed bytes)) b' new
 loop_over tables s bytes start m new b b' o c st goes mid takes is over brought =
@@ -510,7 +510,7 @@ loop_over tables s bytes start m new b b' o c st goes mid takes is over brought 
       | Bad e all i ↦ mid_bad tables s bytes (st.frames goes).0 e c m new b b' (st.frames goes).2 none mid all i over brought
     ]
 
-pub loop_more : (tables : List Served) (s : Stream) (bytes : List ℕ) (start m new : program.Stream) (b b' : Brought) (o : Option declared.Came) (c : declared.Came) (st : Stands tables start s) (goes : start.over ≡ false) (mid : Mid tables s (st.frames goes).0 (s.fed ++ bytes) m b)
+pub loop_more : (tables : List Served) (s : Stream) (bytes : List ℕ) (start m new : program.Stream) (b b' : Brought) (o : Option declared.Outcome) (c : declared.Outcome) (st : Stands tables start s) (goes : start.over ≡ false) (mid : Mid tables s (st.frames goes).0 (s.fed ++ bytes) m b)
     → ((s' : Stream) (taken : List Frame) → HasCome tables m s' → Took (s.fed ++ bytes) taken m.frames → TakesFrame tables s' (s.fed ++ bytes) taken o new) → o ≡ Some c → new.over ≡ false
     → b' ≡ record { txs = b.txs ++ txs_in c; refusal = later_refusal b.refusal (refusal_in c) } → Mid tables s (st.frames goes).0 (s.fed ++ bytes) new b'
 loop_more tables s bytes start m new b b' o c st goes mid takes is on brought =
@@ -525,8 +525,8 @@ all_append : (xs ys : List Tx) → AreWhole xs → AreWhole ys → AreWhole (xs 
 all_append [] ys a b = b
 all_append (x ∷ xs) ys (x', a) b = (x', all_append xs ys a b)
 
-pub whole_more : (b b' : Brought) (c : declared.Came) (o : Option declared.Came) → o ≡ Some c → AreWhole b.txs → AreWhole (txs_of o) → b' ≡ record { txs = b.txs ++ txs_in c; refusal = later_refusal b.refusal (refusal_in c) } → AreWhole b'.txs
-whole_more b b' c o is whole more brought = subst (λ (x : Brought). AreWhole x.txs) (sym brought) (all_append b.txs (txs_in c) whole (subst (λ (x : Option declared.Came). AreWhole (txs_of x)) is more))
+pub whole_more : (b b' : Brought) (c : declared.Outcome) (o : Option declared.Outcome) → o ≡ Some c → AreWhole b.txs → AreWhole (txs_of o) → b' ≡ record { txs = b.txs ++ txs_in c; refusal = later_refusal b.refusal (refusal_in c) } → AreWhole b'.txs
+whole_more b b' c o is whole more brought = subst (λ (x : Brought). AreWhole x.txs) (sym brought) (all_append b.txs (txs_in c) whole (subst (λ (x : Option declared.Outcome). AreWhole (txs_of x)) is more))
 
 -- the bytes were taken in, and no frame yet
 pub loop_starts : (tables : List Served) (s : Stream) (bytes : List ℕ) (start : program.Stream) (frames : Reached) (b : Brought) (st : Stands tables start s) (goes : start.over ≡ false) → Took (s.fed ++ bytes) (st.frames goes).0 frames → b ≡ record { txs = []; refusal = None }

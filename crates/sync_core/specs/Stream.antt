@@ -25,7 +25,7 @@ pub data Piece : Type 0 where
 
 -- what stands in a stretch: a message, bytes that are none, the end of the stream, or a refusal of its frames
 pub data Item : Type 0 where
-  Came : (message : Message) → Item
+  Read : (message : Message) → Item
   Unread : Item
   Ended : Item
   Faulty : (error : FrameError) → Item
@@ -46,7 +46,7 @@ anew s = record { earlier = s.earlier ++ s.now ∷ []; now = []; fed = [] }
 -- ---- what it shows
 
 abbrev pub message_then : Item → List Message → List Message
-message_then (Came m) ms = m ∷ ms
+message_then (Read m) ms = m ∷ ms
 message_then Unread ms = ms
 message_then Ended ms = ms
 message_then (Faulty e) ms = ms
@@ -98,7 +98,7 @@ fault_by (Err e) n later = Some (record { name = assembly_name e; place = n })
 -- the first refusal among items behind these messages, where these stretches are done
 abbrev pub fault_after : List Served → List Stretch → List Message → List Item → Option Fault
 fault_after tables done before [] = None
-fault_after tables done before (Came m ∷ items) = fault_by (due_next tables done before m) (length before) (fault_after tables done (before ++ m ∷ []) items)
+fault_after tables done before (Read m ∷ items) = fault_by (due_next tables done before m) (length before) (fault_after tables done (before ++ m ∷ []) items)
 fault_after tables done before (Unread ∷ items) = Some (record { name = codes "bad_message"; place = length before })
 fault_after tables done before (Ended ∷ items) = None
 fault_after tables done before (Faulty e ∷ items) = Some (frame_fault e)
@@ -108,7 +108,7 @@ abbrev pub fault_of : List Served → Stream → Option Fault
 fault_of tables s = fault_after tables (done_in s) [] s.now
 
 abbrev pub is_end : Item → Bool
-is_end (Came m) = false
+is_end (Read m) = false
 is_end Unread = false
 is_end Ended = true
 is_end (Faulty e) = false
@@ -120,7 +120,7 @@ is_over tables s = list_any is_end s.now || is_some (fault_of tables s)
 -- ---- what records bring
 
 abbrev pub item_by : Result Message ℕ → Item
-item_by (Ok m) = Came m
+item_by (Ok m) = Read m
 item_by (Err left) = Unread
 
 abbrev pub item_of : List ℕ → Item

@@ -11,8 +11,8 @@ use Rattle.shape_base.specs.Transactions.{IsWhole}
 use Rattle.tx_assembler.specs.Stream.{HasTaken}
 use Rattle.sync_core.specs.declared.stream.Stream as program
 use Rattle.sync_core.specs.declared.stream.Refusal.{Refusal}
-use Rattle.sync_core.specs.declared.stream.Came.{Came}
-use Rattle.sync_core.specs.declared.stream.Came.TheVariants as came
+use Rattle.sync_core.specs.declared.stream.Outcome.{Outcome}
+use Rattle.sync_core.specs.declared.stream.Outcome.TheVariants as outcomes
 use Rattle.sync_core.specs.declared.stream.Brought.{Brought}
 use Rattle.pg_wire.specs.declared.frame.FrameError.{FrameError}
 use Rattle.sync_core.specs.Stream.{Stream, Item, Faulty, Fault, new_fault, messages_in, done_in, commits_of, fault_of, is_over, with_one, in_frame}
@@ -38,17 +38,17 @@ abbrev pub fault_in : Option Refusal → Option Fault
 fault_in None = None
 fault_in (Some r) = Some (record { name = r.name; place = r.place })
 
-abbrev pub txs_in : Came → List Tx
-txs_in came.Nothing = []
-txs_in (came.Commit tx) = tx ∷ []
-txs_in came.Ended = []
-txs_in (came.Refused r) = []
+abbrev pub txs_in : Outcome → List Tx
+txs_in outcomes.Nothing = []
+txs_in (outcomes.Commit tx) = tx ∷ []
+txs_in outcomes.Ended = []
+txs_in (outcomes.Refused r) = []
 
-abbrev pub refusal_in : Came → Option Refusal
-refusal_in came.Nothing = None
-refusal_in (came.Commit tx) = None
-refusal_in came.Ended = None
-refusal_in (came.Refused r) = Some r
+abbrev pub refusal_in : Outcome → Option Refusal
+refusal_in outcomes.Nothing = None
+refusal_in (outcomes.Commit tx) = None
+refusal_in outcomes.Ended = None
+refusal_in (outcomes.Refused r) = Some r
 
 -- Something came, and the stream after it: its transactions, and its refusal, are those that were not there before.
 pub record Brings (tables : List Served) (s next : Stream) (txs : List Tx) (refusal : Option Refusal) : Type 0 where
@@ -56,24 +56,24 @@ pub record Brings (tables : List Served) (s next : Stream) (txs : List Tx) (refu
   pub fault : fault_of tables s ≡ None → fault_of tables next ≡ fault_in refusal
 
 -- an item was taken
-pub record TakesItem (tables : List Served) (s : Stream) (i : Item) (c : Came) (new : program.Stream) : Type 0 where
+pub record TakesItem (tables : List Served) (s : Stream) (i : Item) (c : Outcome) (new : program.Stream) : Type 0 where
   pub come : HasCome tables new (with_one s i)
   pub brings : Brings tables s (with_one s i) (txs_in c) (refusal_in c)
 
 -- a keepalive brings nothing, and a frame brings its item
-abbrev pub TakesItems : List Served → Stream → List Item → Came → program.Stream → Type 0
+abbrev pub TakesItems : List Served → Stream → List Item → Outcome → program.Stream → Type 0
 TakesItems tables s [] c new = HasCome tables new s × (txs_in c ≡ []) × (refusal_in c ≡ None)
 TakesItems tables s (i ∷ items) c new = (items ≡ []) × TakesItem tables s i c new
 
-abbrev pub txs_of : Option Came → List Tx
+abbrev pub txs_of : Option Outcome → List Tx
 txs_of None = []
 txs_of (Some c) = txs_in c
 
 -- the next frame was taken; or the frames are refused; or there is no whole one
-pub data TakesFrame (tables : List Served) (s : Stream) (fed : List ℕ) (taken : List Frame) : Option Came → program.Stream → Type 0 where
+pub data TakesFrame (tables : List Served) (s : Stream) (fed : List ℕ) (taken : List Frame) : Option Outcome → program.Stream → Type 0 where
   NoFrame : {new : program.Stream} → HasCome tables new s → Took fed taken new.frames → frames_of fed ≡ record { frames = taken; refusal = None } → TakesFrame tables s fed taken None new
-  OneFrame : {c : Came} {new : program.Stream} (f : Frame) → Took fed (taken ++ f ∷ []) new.frames → TakesItems tables s (in_frame f) c new → TakesFrame tables s fed taken (Some c) new
-  BadFrames : {c : Came} {new : program.Stream} (e : FrameError) → frames_of fed ≡ record { frames = taken; refusal = Some e } → TakesItem tables s (Faulty e) c new → TakesFrame tables s fed taken (Some c) new
+  OneFrame : {c : Outcome} {new : program.Stream} (f : Frame) → Took fed (taken ++ f ∷ []) new.frames → TakesItems tables s (in_frame f) c new → TakesFrame tables s fed taken (Some c) new
+  BadFrames : {c : Outcome} {new : program.Stream} (e : FrameError) → frames_of fed ≡ record { frames = taken; refusal = Some e } → TakesItem tables s (Faulty e) c new → TakesFrame tables s fed taken (Some c) new
 
 abbrev pub later_refusal : Option Refusal → Option Refusal → Option Refusal
 later_refusal r None = r

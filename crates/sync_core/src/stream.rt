@@ -37,7 +37,7 @@ pub struct Refusal {
 
 /// What a message or a frame led to.
 #[derive(Drop)]
-pub enum Came {
+pub enum Outcome {
     /// Nothing yet.
     Nothing,
     /// A transaction ended.
@@ -105,14 +105,14 @@ impl Brought {
     }
 
     /// Adds what came.
-    fn add(&mut self, came: Came) -> Result<(), OutOfMemory>
-        ensures { OnOk result (self.new ≡ record { txs = self.old.txs ++ txs_in came; refusal = later_refusal self.old.refusal (refusal_in came) }) }
+    fn add(&mut self, outcome: Outcome) -> Result<(), OutOfMemory>
+        ensures { OnOk result (self.new ≡ record { txs = self.old.txs ++ txs_in outcome; refusal = later_refusal self.old.refusal (refusal_in outcome) }) }
     {
-        match came {
-            Came::Nothing => Ok(()),
-            Came::Commit(tx) => self.txs.push(tx),
-            Came::Ended => Ok(()),
-            Came::Refused(refusal) => {
+        match outcome {
+            Outcome::Nothing => Ok(()),
+            Outcome::Commit(tx) => self.txs.push(tx),
+            Outcome::Ended => Ok(()),
+            Outcome::Refused(refusal) => {
                 self.refusal = Some(refusal);
                 Ok(())
             }
@@ -144,11 +144,11 @@ impl Stream {
     }
 
     /// Takes a message.
-    fn feed(&mut self, alloc: Global, message: Message) -> Result<Came, OutOfMemory>
+    fn feed(&mut self, alloc: Global, message: Message) -> Result<Outcome, OutOfMemory>
         requires fits { Fits message }
         requires goes { self.old.over ≡ false }
-        ensures takes { (tables : List Served) (s : spec.Stream) → HasCome tables self.old s → IfOk result (λ came. TakesItem tables s (spec.Came message) came self.new) }
-        ensures whole { IfOk result (λ came. AreWhole (txs_in came)) }
+        ensures takes { (tables : List Served) (s : spec.Stream) → HasCome tables self.old s → IfOk result (λ outcome. TakesItem tables s (spec.Read message) outcome self.new) }
+        ensures whole { IfOk result (λ outcome. AreWhole (txs_in outcome)) }
         ensures frames { self.new.frames ≡ self.old.frames }
     {
         let Some(next) = self.count.checked_add(1) else {
@@ -157,31 +157,31 @@ impl Stream {
         match self.assembler.feed(message) {
             Ok(Fed::Nothing) => {
                 self.count = next;
-                Ok(Came::Nothing)
+                Ok(Outcome::Nothing)
             }
             Ok(Fed::Tx(tx)) => {
                 self.count = next;
-                Ok(Came::Commit(tx))
+                Ok(Outcome::Commit(tx))
             }
             Ok(Fed::Repeat { .. }) => {
                 self.count = next;
-                Ok(Came::Nothing)
+                Ok(Outcome::Nothing)
             }
             Err(error) => {
                 let Some(name) = name_of(error) else {
                     return Err(OutOfMemory);
                 };
                 self.over = true;
-                Ok(Came::Refused(named(alloc, name, self.count)?))
+                Ok(Outcome::Refused(named(alloc, name, self.count)?))
             }
         }
     }
 
     /// Takes the bytes of a message.
-    fn take_message(&mut self, alloc: Global, bytes: &[u8]) -> Result<Came, OutOfMemory>
+    fn take_message(&mut self, alloc: Global, bytes: &[u8]) -> Result<Outcome, OutOfMemory>
         requires { self.old.over ≡ false }
-        ensures takes { (tables : List Served) (s : spec.Stream) → HasCome tables self.old s → IfOk result (λ came. TakesItem tables s (item_of bytes.now) came self.new) }
-        ensures whole { IfOk result (λ came. AreWhole (txs_in came)) }
+        ensures takes { (tables : List Served) (s : spec.Stream) → HasCome tables self.old s → IfOk result (λ outcome. TakesItem tables s (item_of bytes.now) outcome self.new) }
+        ensures whole { IfOk result (λ outcome. AreWhole (txs_in outcome)) }
         ensures frames { self.new.frames ≡ self.old.frames }
     {
         match read_message(alloc, bytes) {
@@ -189,32 +189,32 @@ impl Stream {
             Err(MessageError::OutOfMemory) => Err(OutOfMemory),
             Err(MessageError::BadMessage { .. }) => {
                 self.over = true;
-                Ok(Came::Refused(named(alloc, "bad_message", self.count)?))
+                Ok(Outcome::Refused(named(alloc, "bad_message", self.count)?))
             }
         }
     }
 
     /// Takes the next frame, where there is a whole one.
-    fn take_frame(&mut self, alloc: Global) -> Result<Option<Came>, OutOfMemory>
+    fn take_frame(&mut self, alloc: Global) -> Result<Option<Outcome>, OutOfMemory>
         requires { self.old.over ≡ false }
-        ensures takes { (tables : List Served) (s : spec.Stream) (fed : List ℕ) (taken : List Frame) → HasCome tables self.old s → Took fed taken self.old.frames → IfOk result (λ came. TakesFrame tables s fed taken came self.new) }
-        ensures whole { IfOk result (λ came. AreWhole (txs_of came)) }
+        ensures takes { (tables : List Served) (s : spec.Stream) (fed : List ℕ) (taken : List Frame) → HasCome tables self.old s → Took fed taken self.old.frames → IfOk result (λ outcome. TakesFrame tables s fed taken outcome self.new) }
+        ensures whole { IfOk result (λ outcome. AreWhole (txs_of outcome)) }
     {
         match self.frames.next() {
             Ok(None) => Ok(None),
             Ok(Some(Frame::Wal { message, .. })) => {
-                let came = self.take_message(alloc, message.as_slice())?;
-                Ok(Some(came))
+                let outcome = self.take_message(alloc, message.as_slice())?;
+                Ok(Some(outcome))
             }
-            Ok(Some(Frame::Keepalive { .. })) => Ok(Some(Came::Nothing)),
+            Ok(Some(Frame::Keepalive { .. })) => Ok(Some(Outcome::Nothing)),
             Ok(Some(Frame::Done)) => {
                 self.over = true;
-                Ok(Some(Came::Ended))
+                Ok(Some(Outcome::Ended))
             }
             Err(error) => {
                 self.over = true;
                 let refusal = frame_refusal(alloc, error)?;
-                Ok(Some(Came::Refused(refusal)))
+                Ok(Some(Outcome::Refused(refusal)))
             }
         }
     }
@@ -227,9 +227,9 @@ impl Stream {
         if self.over {
             return Ok(Brought::nothing(alloc));
         }
-        let came = self.take_message(alloc, bytes)?;
+        let outcome = self.take_message(alloc, bytes)?;
         let mut brought = Brought::nothing(alloc);
-        brought.add(came)?;
+        brought.add(outcome)?;
         Ok(brought)
     }
 
@@ -244,10 +244,10 @@ impl Stream {
         }
         self.frames.feed(bytes)?;
         'frames: for _ in 0..u64::MAX {
-            let Some(came) = self.take_frame(alloc)? else {
+            let Some(outcome) = self.take_frame(alloc)? else {
                 return Ok(brought);
             };
-            brought.add(came)?;
+            brought.add(outcome)?;
             if self.over {
                 return Ok(brought);
             }

@@ -3,6 +3,8 @@
 
 mod chain;
 mod expr;
+mod front;
+mod leaves;
 mod parsing;
 mod printing;
 mod reading;

@@ -1,190 +1,17 @@
 //! From tokens to their tree.
-ghost use Rattle.std.specs.Prelude.{◌≡◌, ◌∷◌, [], List, IfNone, IfSome, MatchOption, true, false, map, IfOk};
-ghost use Rattle.ll_rules.specs.Rules.{leads, one_read, Read, Refuse, Syntax};
-ghost use Rattle.where_grammar.specs.Grammar.{has, begins_range, an_op, a_test, a_pattern, maybe_not, Whatever};
-ghost use Rattle.where_grammar.specs.Tree.{trees};
+ghost use Rattle.std.specs.Prelude.{◌≡◌, map};
 ghost use Rattle.where_grammar.specs.Meaning.{clause_of};
-ghost use Rattle.where_parser.specs.View.{Answered, Gives, Fails, tree_of};
-ghost use Rattle.where_parser.specs.Parts.{mark, joint as joint_passes, IsJoined, read_predicate, read_right, read_plain, read_negative, read_atom, read_member, read_others, read_within, read_between, read_like, read_range, read_cmp, read_is, read_not, read_and, read_or};
+ghost use Rattle.where_parser.specs.View.{Answered, Gives, tree_of};
+ghost use Rattle.where_parser.specs.Parts.{read_predicate, read_right, read_atom, read_member, read_others, read_within, read_between, read_range, read_cmp, read_is, read_not, read_and, read_or};
 
 use super::chain::{all, any, between, compared, distinct, is_test, within};
 use super::expr::Expr;
+use super::front::{after, after_joint, begins_range, optional_not, skip};
+use super::leaves::{like, operator, plain, test};
 use super::stop::Stop;
 use super::word::{Joint, Word};
-use shape_base::{Duplicate, Text};
 use std::alloc::Global;
-use where_grammar::words::IsTest;
-use where_lexer::{CmpOp, Token};
-
-const SMALLEST: u64 = 1 << 63;
-
-fn next(tokens: &[Token]) -> Option<(&Token, &[Token])>
-    ensures { MatchOption result (tokens.now ≡ []) (λ x. tokens.now ≡ x.0.now ∷ x.1.now) }
-{
-    tokens.split_first()
-}
-
-fn is_word(token: &Token, word: Word) -> bool
-    ensures { result ≡ has (mark word) token.now }
-{
-    match word {
-        Word::Open => matches!(token, Token::Open),
-        Word::Close => matches!(token, Token::Close),
-        Word::Comma => matches!(token, Token::Comma),
-        Word::Minus => matches!(token, Token::Minus),
-        Word::And => matches!(token, Token::And),
-        Word::Or => matches!(token, Token::Or),
-        Word::Not => matches!(token, Token::Not),
-        Word::Is => matches!(token, Token::Is),
-        Word::Distinct => matches!(token, Token::Distinct),
-        Word::From => matches!(token, Token::From),
-        Word::In => matches!(token, Token::In),
-        Word::Between => matches!(token, Token::Between),
-        Word::Like => matches!(token, Token::Like),
-    }
-}
-
-/// The tokens after the word, where it stands at the front.
-fn after(tokens: &[Token], word: Word) -> Option<&[Token]>
-    ensures { MatchOption result
-        ((leads (has (mark word)) tokens.now ≡ false) × (one_read (mark word) tokens.now ≡ Refuse Syntax tokens.now))
-        (λ rest. (leads (has (mark word)) tokens.now ≡ true) × (one_read (mark word) tokens.now ≡ Read tt rest.now)) }
-{
-    let (token, rest) = next(tokens)?;
-    if is_word(token, word) {
-        Some(rest)
-    } else {
-        None
-    }
-}
-
-/// The tokens after the word, which has to stand at the front.
-fn skip(tokens: &[Token], word: Word) -> Result<&[Token], Stop>
-    ensures { Gives (λ x. tt) (λ x. x.now) result (one_read (mark word) tokens.now) }
-{
-    match after(tokens, word) {
-        Some(rest) => Ok(rest),
-        None => Err(Stop::Syntax(tokens)),
-    }
-}
-
-#[tactic(auto, unfolding(crate::specs::Parts::read_negative))]
-fn negative(tokens: &[Token]) -> Result<(Expr, &[Token]), Stop>
-    ensures { Gives (λ x. tree_of x.0) (λ x. x.1.now) result (read_negative tokens.now) }
-{
-    let Some((token, rest)) = next(tokens) else {
-        return Err(Stop::Syntax(tokens));
-    };
-    match token {
-        Token::Digits(n) => {
-            if *n > SMALLEST {
-                Err(Stop::Syntax(tokens))
-            } else if *n == SMALLEST {
-                Ok((Expr::Int(i64::MIN), rest))
-            } else {
-                Ok((Expr::Int(-(*n as i64)), rest))
-            }
-        }
-        _ => Err(Stop::Syntax(tokens)),
-    }
-}
-
-#[tactic(auto, unfolding(crate::specs::Parts::read_plain, crate::specs::Parts::read_negative))]
-fn plain(alloc: Global, tokens: &[Token]) -> Result<(Expr, &[Token]), Stop>
-    ensures { Gives (λ x. tree_of x.0) (λ x. x.1.now) result (read_plain tokens.now) }
-{
-    let Some((token, rest)) = next(tokens) else {
-        return Err(Stop::Syntax(tokens));
-    };
-    match token {
-        Token::Minus => negative(rest),
-        Token::Name(name) => Ok((Expr::Name(name.copy(alloc)?), rest)),
-        Token::Quoted(text) => Ok((Expr::Quoted(text.copy(alloc)?), rest)),
-        Token::Digits(n) => {
-            if *n < SMALLEST {
-                Ok((Expr::Int(*n as i64), rest))
-            } else {
-                Err(Stop::Syntax(tokens))
-            }
-        }
-        Token::True => Ok((Expr::Bool(true), rest)),
-        Token::False => Ok((Expr::Bool(false), rest)),
-        Token::Null => Ok((Expr::Null, rest)),
-        _ => Err(Stop::Syntax(tokens)),
-    }
-}
-
-fn pattern(alloc: Global, tokens: &[Token]) -> Result<(Text, &[Token]), Stop>
-    ensures { Gives (λ x. x.0) (λ x. x.1.now) result (one_read a_pattern tokens.now) }
-{
-    let Some((token, rest)) = next(tokens) else {
-        return Err(Stop::Syntax(tokens));
-    };
-    match token {
-        Token::Quoted(text) => Ok((text.copy(alloc)?, rest)),
-        _ => Err(Stop::Syntax(tokens)),
-    }
-}
-
-fn test(tokens: &[Token]) -> Result<(IsTest, &[Token]), Stop>
-    ensures { Gives (λ x. x.0) (λ x. x.1.now) result (one_read a_test tokens.now) }
-{
-    let Some((token, rest)) = next(tokens) else {
-        return Err(Stop::Syntax(tokens));
-    };
-    match token {
-        Token::Null => Ok((IsTest::Null, rest)),
-        Token::True => Ok((IsTest::True, rest)),
-        Token::False => Ok((IsTest::False, rest)),
-        Token::Unknown => Ok((IsTest::Unknown, rest)),
-        _ => Err(Stop::Syntax(tokens)),
-    }
-}
-
-fn operator(tokens: &[Token]) -> Option<(CmpOp, &[Token])>
-    ensures { MatchOption result (leads (has an_op) tokens.now ≡ false)
-        (λ x. (leads (has an_op) tokens.now ≡ true) × (one_read an_op tokens.now ≡ Read x.0 x.1.now)) }
-{
-    let (token, rest) = next(tokens)?;
-    match token {
-        Token::Compare(op) => Some((*op, rest)),
-        _ => None,
-    }
-}
-
-/// Whether NOT stands at the front, and the tokens after it.
-fn optional_not(tokens: &[Token]) -> (bool, &[Token])
-    ensures { (maybe_not Whatever).read tokens.now ≡ Read result.0 result.1.now }
-{
-    match after(tokens, Word::Not) {
-        Some(rest) => (true, rest),
-        None => (false, tokens),
-    }
-}
-
-#[tactic(auto, unfolding(crate::specs::Parts::read_like))]
-fn like(alloc: Global, left: Expr, not: bool, tokens: &[Token]) -> Result<(Expr, &[Token]), Stop>
-    ensures { Gives (λ x. tree_of x.0) (λ x. x.1.now) result (read_like (tree_of left) not tokens.now) }
-{
-    let (pattern, rest) = pattern(alloc, tokens)?;
-    let left = Box::new(alloc, left)?;
-    Ok((Expr::Like { left, not, pattern }, rest))
-}
-
-fn begins_range(tokens: &[Token]) -> bool
-    ensures { result ≡ leads begins_range tokens.now }
-{
-    let Some((token, _)) = next(tokens) else {
-        return false;
-    };
-    match token {
-        Token::Not => true,
-        Token::In => true,
-        Token::Between => true,
-        Token::Like => true,
-        _ => false,
-    }
-}
+use where_lexer::Token;
 
 #[cycle(reading)]
 #[tactic(auto, unfolding(crate::specs::Parts::read_atom, crate::specs::Parts::read_plain, crate::specs::Parts::read_or, where_grammar::specs::Grammar::atom))]
@@ -212,20 +39,6 @@ fn member(alloc: Global, joint: Joint, tokens: &[Token], room: u8) -> Result<(Ex
         Joint::And => not(alloc, tokens, room),
         Joint::Or => and(alloc, tokens, room),
     }
-}
-
-fn after_joint(tokens: &[Token], joint: Joint) -> Option<&[Token]>
-    ensures { MatchOption result
-        (leads (joint_passes joint) tokens.now ≡ false)
-        (λ rest. IsJoined joint tokens.now rest.now) }
-{
-    let (token, rest) = next(tokens)?;
-    let found = match joint {
-        Joint::Comma => is_word(token, Word::Comma),
-        Joint::And => is_word(token, Word::And),
-        Joint::Or => is_word(token, Word::Or),
-    };
-    if found { Some(rest) } else { None }
 }
 
 #[cycle(reading)]

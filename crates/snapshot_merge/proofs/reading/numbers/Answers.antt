@@ -1,4 +1,4 @@
-use Rattle.std.proofs.Common.{◌<◌, length, arith}
+use Rattle.std.proofs.Common.{length, arith}
 use Rattle.std.proofs.lemmas.Result.{err_from_is_err_and}
 use Rattle.snapshot_merge.specs.VisText.{numbers_within}
 use Rattle.snapshot_merge.proofs.Loops.{no_number, last_number, no_comma, goes_on, no_turn_left, none_left, some_left}

@@ -1,4 +1,4 @@
-use Rattle.std.proofs.Common.{◌≡◌, ◌<◌, ◌++◌, ◌∷◌, [], List, ℕ, inr, refl, sym, ap, subst, ◌∙◌, arith}
+use Rattle.std.proofs.Common.{◌<◌, ◌++◌, ◌∷◌, [], List, ℕ, inr, refl, sym, ap, subst, ◌∙◌, arith}
 use Rattle.shape_base.specs.declared.change.Tx.{Tx}
 use Rattle.snapshot_merge.specs.Buffer.{bytes_of, capped}
 use Rattle.snapshot_merge.proofs.Sums.{capped_with}

@@ -18,22 +18,22 @@ frames-init c = record {
 pub returns-in_default-clause-receives : goal.returns-in_default-clause-receives
 returns-in_default-clause-receives c tables s st =
     let inv = c.frames.invariant in
-    loop_ends tables s c.args.bytes.now c.args.self.now c.frames.self c.take_frame.new.self c.frames.brought c.in_ok-came.field-0 st inv.first (inv.mid tables s st inv.first)
-    (λ s' taken h t. (c.in_ok-came.ensures).takes tables s' (s.fed ++ c.args.bytes.now) taken h t) c.in_default.not-Some
+    loop_ends tables s c.args.bytes.now c.args.self.now c.frames.self c.take_frame.new.self c.frames.brought c.in_ok-outcome.field-0 st inv.first (inv.mid tables s st inv.first)
+    (λ s' taken h t. (c.in_ok-outcome.ensures).takes tables s' (s.fed ++ c.args.bytes.now) taken h t) c.in_default.not-Some
 
 pub returns-then-self-2-clause-receives : goal.returns-then-self-2-clause-receives
 returns-then-self-2-clause-receives c tables s st =
     let inv = c.frames.invariant in
-    loop_over tables s c.args.bytes.now c.args.self.now c.frames.self c.take_frame.new.self c.frames.brought c.add.new.self c.in_ok-came.field-0 c.in-Some.came st inv.first (inv.mid tables s st inv.first)
-    (λ s' taken h t. (c.in_ok-came.ensures).takes tables s' (s.fed ++ c.args.bytes.now) taken h t) c.in-Some.is c.if-self-2.true c.in_ok-add.ensures
+    loop_over tables s c.args.bytes.now c.args.self.now c.frames.self c.take_frame.new.self c.frames.brought c.add.new.self c.in_ok-outcome.field-0 c.in-Some.outcome st inv.first (inv.mid tables s st inv.first)
+    (λ s' taken h t. (c.in_ok-outcome.ensures).takes tables s' (s.fed ++ c.args.bytes.now) taken h t) c.in-Some.is c.if-self-2.true c.in_ok-add.ensures
 
 pub frames-preserved : goal.frames-preserved
 frames-preserved c =
     let inv = c.frames.invariant in
     record {
-      mid = λ tables s st goes. loop_more tables s c.args.bytes.now c.args.self.now c.frames.self c.take_frame.new.self c.frames.brought c.add.new.self c.in_ok-came.field-0 c.in-Some.came st goes (inv.mid tables s st goes)
-          (λ s' taken h t. (c.in_ok-came.ensures).takes tables s' (s.fed ++ c.args.bytes.now) taken h t) c.in-Some.is c.if-self-2.false c.in_ok-add.ensures;
+      mid = λ tables s st goes. loop_more tables s c.args.bytes.now c.args.self.now c.frames.self c.take_frame.new.self c.frames.brought c.add.new.self c.in_ok-outcome.field-0 c.in-Some.outcome st goes (inv.mid tables s st goes)
+          (λ s' taken h t. (c.in_ok-outcome.ensures).takes tables s' (s.fed ++ c.args.bytes.now) taken h t) c.in-Some.is c.if-self-2.false c.in_ok-add.ensures;
       goes = c.if-self-2.false;
       first = inv.first;
-      whole = whole_more c.frames.brought c.add.new.self c.in-Some.came c.in_ok-came.field-0 c.in-Some.is inv.whole (c.in_ok-came.ensures).whole c.in_ok-add.ensures;
+      whole = whole_more c.frames.brought c.add.new.self c.in-Some.outcome c.in_ok-outcome.field-0 c.in-Some.is inv.whole (c.in_ok-outcome.ensures).whole c.in_ok-add.ensures;
     }

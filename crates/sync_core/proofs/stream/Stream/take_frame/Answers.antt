@@ -13,16 +13,16 @@ returns-in-Ok-None-clause-takes c tables s fed taken h t =
     let is = c.in-Ok-None.is ∙ ap Ok c.in-Ok-None.field-0-is in
     NoFrame (come_kept tables s c.args.self.now _ h refl refl refl) (took_none fed taken c.next.result c.next.new.self is (c.next.ensures.took fed taken t)) (c.next.ensures.whole is fed taken t)
 
-pub returns-in_ok-came-in-Ok-Some-Wal-clause-takes : goal.returns-in_ok-came-in-Ok-Some-Wal-clause-takes
-returns-in_ok-came-in-Ok-Some-Wal-clause-takes c tables s fed taken h t =
+pub returns-in_ok-outcome-in-Ok-Some-Wal-clause-takes : goal.returns-in_ok-outcome-in-Ok-Some-Wal-clause-takes
+returns-in_ok-outcome-in-Ok-Some-Wal-clause-takes c tables s fed taken h t =
     let k = c.in-Ok-Some-Wal in
-    let e = c.in_ok-came-in-Ok-Some-Wal in
+    let e = c.in_ok-outcome-in-Ok-Some-Wal in
     let f = frames.Wal k.field-0-0-0 k.field-0-0-1 k.message in
     let is = k.is ∙ ap Ok (k.field-0-is ∙ ap Some k.field-0-0-is) in
     let took = took_frame fed taken c.next.result f c.next.new.self is (c.next.ensures.took fed taken t) in
     let takes = (e.ensures).takes tables s (come_kept tables s c.args.self.now _ h refl refl refl) in
     OneFrame f (subst (λ (x : Reached). Took fed (taken ++ f ∷ []) x) (sym (e.ensures).frames) took)
-    (refl, subst (λ (bytes : List ℕ). TakesItem tables s (item_of bytes) e.came c.take_message.new.self) (c.as_slice.ensures ∙ k.message-is) takes)
+    (refl, subst (λ (bytes : List ℕ). TakesItem tables s (item_of bytes) e.outcome c.take_message.new.self) (c.as_slice.ensures ∙ k.message-is) takes)
 
 pub returns-in-Ok-Some-Keepalive-clause-takes : goal.returns-in-Ok-Some-Keepalive-clause-takes
 returns-in-Ok-Some-Keepalive-clause-takes c tables s fed taken h t =
