@@ -1,5 +1,5 @@
 //! The log of texts.
-ghost use Rattle.std.specs.Prelude.{◌≡◌, ◌↔◌, ℕ, zero, suc, ◌+◌, ◌-◌, ◌<◌, ◌≤◌, ◌^◌, true, [], ◌∷◌, ◌++◌, length, map, max, IsOk, IsErr, IfOk, IfErr, OnOk, OnErr, slice_range};
+ghost use Rattle.std.specs.Prelude.{◌≡◌, ◌↔◌, ℕ, zero, suc, ◌+◌, ◌-◌, ◌<◌, ◌≤◌, ◌^◌, true, [], ◌∷◌, ◌++◌, length, map, max, IsOk, IsErr, IfOk, IfErr, OnOk, OnErr, slice_range, slice_get, Some};
 ghost use Rattle.std.specs.List.{sum};
 ghost use Rattle.shape_base.specs.Offsets.{is_before};
 ghost use Rattle.shape_log.specs.Texts.{joined, end_of, count_upto, position};
@@ -158,6 +158,14 @@ impl TextLog {
         ensures offsets { result ≡ length self.now.offsets }
     {
         self.offsets.as_slice().len() as u64
+    }
+
+    /// The offset of the text in a place, from 0.
+    pub fn offset(&self, place: u64) -> Offset
+        requires { place < length self.now.offsets }
+        ensures { slice_get self.now.offsets place ≡ Some result }
+    {
+        self.offsets[place as usize]
     }
 
     /// How many offsets are not after this one, by a binary search.
