@@ -1,16 +1,15 @@
 -- The end of a log, and where an offset stands in it.
-use Rattle.std.proofs.Common.{◌≡◌, ℕ, zero, suc, ◌+◌, ◌-◌, ◌<◌, ◌≤◌, Bool, true, false, List, [], ◌∷◌, ◌++◌, length, get_or, take, drop, refl, sym, ap, subst, ◌⊎◌, ◌∙◌, arith, Some, inl, inr}
+use Rattle.std.proofs.Common.{◌≡◌, ℕ, zero, suc, ◌+◌, ◌-◌, ◌<◌, ◌≤◌, Bool, true, false, List, [], ◌∷◌, length, get_or, take, drop, refl, sym, ap, subst, ◌⊎◌, arith, Some, inl, inr}
 use Rattle.std.specs.Prelude.{not, slice_get}
 use Rattle.std.specs.List.{AllWithin}
 use Rattle.std.specs.List.Sorted.{IsPartitionedBy, IsPartitionPoint}
 use Rattle.shape_base.specs.declared.offset.Offset.{Offset}
-use Rattle.shape_base.specs.declared.offset.Offset.TheVariants.{Start, At}
 use Rattle.shape_base.specs.declared.entry.Entry.{Entry}
 use Rattle.shape_base.specs.Offsets.{is_before, rises_after, upto, past}
 use Rattle.shape_base.specs.Log.{last_offset}
+use Rattle.shape_base.proofs.Lemmas.{before_trans}
 use Rattle.shape_log.specs.Logged.{IsBound}
-use Rattle.std.proofs.lemmas.Bool.Decides.{nat_tests}
-use Rattle.std.proofs.lemmas.Bool.{cases_lt, and_parts, and_from, false_from_ne_true}
+use Rattle.std.proofs.lemmas.Bool.{cases_lt, and_parts, false_from_ne_true}
 
 pub last_is : (o : Offset) (es : List Entry) (e : Entry) → slice_get es (length es - 1) ≡ Some e → e.offset ≡ last_offset o es
 last_is o [] e h = cc
@@ -19,19 +18,7 @@ last_is o (x ∷ y ∷ es) e h =
     let next : length (x ∷ y ∷ es) - 1 ≡ suc (length (y ∷ es) - 1) = omega arith in
     last_is x.offset (y ∷ es) e (subst (λ (n : ℕ). slice_get (x ∷ y ∷ es) n ≡ Some e) next h)
 
-pub rises_more : (o : Offset) (es : List Entry) (e : Entry) → rises_after o es ≡ true → is_before (last_offset o es) e.offset ≡ true → rises_after o (es ++ e ∷ []) ≡ true
-rises_more o [] e h k = and_from _ _ k refl
-rises_more o (x ∷ es) e h k = let p = and_parts (is_before o x.offset) _ h in and_from _ _ p.0 (rises_more x.offset es e p.1 k)
-
 -- ---- a cut at an offset
-
-before_trans : (a b c : Offset) → is_before a b ≡ true → is_before b c ≡ true → is_before a c ≡ true
-before_trans Start Start c h k = k
-before_trans Start (At b j) Start h k = k
-before_trans Start (At b j) (At c k) h l = refl
-before_trans (At a i) Start c h k = cc
-before_trans (At a i) (At b j) Start h k = k
-before_trans (At a i) (At b j) (At c k) h l = grind (arith, nat_tests)
 
 abbrev pub is_upto : Offset → Entry → Bool
 is_upto o e = not (is_before o e.offset)

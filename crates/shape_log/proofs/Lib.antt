@@ -1,1 +1,4 @@
+pub mod Appending
 pub mod Bounds
+pub mod Parts
+pub mod Rising

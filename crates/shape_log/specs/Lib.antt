@@ -1,2 +1,5 @@
 pub mod Logged
 pub mod Log
+pub mod Roped
+pub mod Texts
+pub mod Inside

@@ -1,10 +1,11 @@
-use Rattle.std.proofs.Common.{◌≡◌, ◌≤◌, ℕ, ◌++◌, ◌∷◌, [], true, sym, ap, subst, List, arith}
+use Rattle.std.proofs.Common.{◌≡◌, ◌≤◌, ℕ, ◌++◌, ◌∷◌, [], true, sym, ap, subst, List}
 use Rattle.shape_base.specs.declared.entry.Entry.{Entry}
 use Rattle.shape_base.specs.declared.offset.Offset.TheVariants.{At}
 use Rattle.shape_base.specs.Offsets.{is_before, rises_after}
 use Rattle.shape_base.specs.Log.{end_of}
 use Rattle.shape_log.specs.Logged.{Logged}
-use Rattle.shape_log.proofs.Bounds.{rises_more, room_left}
+use Rattle.shape_base.proofs.Lemmas.{rises_more}
+use Rattle.shape_log.proofs.Bounds.{room_left}
 use Rattle.shape_log.proofs.log.Log.append.Goals as goal
 
 pub invariant_of-self : goal.invariant_of-self
