@@ -1,1 +1,4 @@
 -- Lemmas.
+mod LineLaws
+mod ChainLaws
+mod WritingLaws

@@ -1,3 +1,5 @@
 pub mod Status
 pub mod ReplyText
+pub mod ReplyLines
+pub mod ReplySeen
 pub mod Refusals

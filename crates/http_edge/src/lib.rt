@@ -3,8 +3,17 @@
 
 mod error_code;
 mod refusal;
+mod refusing;
+mod reply_head;
+mod reply_lines;
 mod request;
+mod scanning;
+mod status;
+mod writing;
 
 pub use error_code::{Detail, ErrorCode};
 pub use refusal::Refusal;
+pub use refusing::refusal_reply;
+pub use reply_head::ReplyHead;
 pub use request::{HeadError, Request};
+pub use writing::write_reply;
