@@ -2,3 +2,5 @@
 mod LineLaws
 mod ChainLaws
 mod WritingLaws
+mod ValueLaws
+mod ReadingLaws

@@ -7,7 +7,7 @@ ghost use Rattle.http_edge.specs.ReplySeen.{seen, seen_pair, seen_maybe};
 use shape_base::split_at_first;
 
 /// The bytes, with the first apart.
-fn first_byte(bytes: &[u8]) -> Option<(u8, &[u8])>
+pub fn first_byte(bytes: &[u8]) -> Option<(u8, &[u8])>
     ensures { MatchOption result (bytes.now ≡ []) (λ x. bytes.now ≡ x.0 ∷ x.1.now) }
 {
     let (first, rest) = bytes.split_first()?;
