@@ -3,3 +3,8 @@ pub mod Fairness
 pub mod Lemmas
 pub mod Logs
 pub mod Pages
+mod LineLaws
+mod ChainLaws
+mod WritingLaws
+mod ValueLaws
+mod ReadingLaws

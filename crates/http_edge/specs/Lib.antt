@@ -1,5 +1,9 @@
 pub mod Status
 pub mod ReplyText
+pub mod ReplyLines
+pub mod ReplySeen
+pub mod ReplyValues
+pub mod ReplyAnswer
 pub mod Refusals
 pub mod Schema
 pub mod World

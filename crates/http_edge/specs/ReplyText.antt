@@ -7,21 +7,11 @@ use Rattle.shape_base.specs.declared.offset.Offset.{Offset}
 use Rattle.shape_base.specs.declared.reply.Reply.{Reply}
 use Rattle.shape_base.specs.Handle.{IsHandle, handle_text}
 use Rattle.shape_base.specs.OffsetText.{IsOffset, offset_text}
+use Rattle.http_edge.specs.declared.reply_head.ReplyHead.{ReplyHead}
 use Rattle.http_edge.specs.Status.{is_status, phrase}
 
 abbrev pub crlf : List ℕ
 crlf = 13 ∷ 10 ∷ []
-
--- what the head of a reply says
-pub record ReplyHead : Type 0 where
-  pub status : ℕ
-  pub length : ℕ
-  pub max_age : ℕ
-  pub handle : Option Handle
-  pub offset : Option Offset
-  pub schema : Option (List ℕ)
-  pub cursor : Option ℕ
-  pub close : Bool
 
 -- a visible byte of ASCII, and no space
 abbrev pub is_visible : ℕ → Bool
@@ -56,13 +46,14 @@ allow_line status = if status == 405 then codes "allow: GET" ++ crlf else []
 abbrev pub close_line : Bool → List ℕ
 close_line close = if close then codes "connection: close" ++ crlf else []
 
-abbrev pub status_line : ℕ → List ℕ
-status_line status = codes "HTTP/1.1 " ++ decimal status ++ 32 ∷ phrase status ++ crlf
+-- a status and its phrase
+abbrev pub status_text : ℕ → List ℕ
+status_text status = decimal status ++ 32 ∷ phrase status
 
 -- The text of a head: each optional line stands exactly where its value is present, and `allow: GET` exactly under 405.
 unfoldable pub head_text : ReplyHead → List ℕ
 head_text h =
-    status_line h.status
+    line (codes "HTTP/1.1 ") (status_text h.status)
     ++ line (codes "content-type: ") (codes "application/json")
     ++ line (codes "content-length: ") (decimal h.length)
     ++ line (codes "cache-control: ") (cache_text h.max_age)

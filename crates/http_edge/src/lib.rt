@@ -3,9 +3,23 @@
 
 mod error_code;
 pub mod laws;
+mod reading;
 mod refusal;
+mod refusing;
+mod reply_error;
+mod reply_head;
+mod reply_lines;
+mod reply_values;
 mod request;
+mod scanning;
+mod status;
+mod writing;
 
 pub use error_code::{Detail, ErrorCode};
+pub use reading::read_reply;
 pub use refusal::Refusal;
+pub use refusing::refusal_reply;
+pub use reply_error::ReplyError;
+pub use reply_head::ReplyHead;
 pub use request::{HeadError, Request};
+pub use writing::write_reply;
