@@ -1,0 +1,16 @@
+//! Scripts: lists of records, each a kind byte, four bytes of length and a payload, from their bytes to events.
+#![tactic(auto)]
+
+mod columns;
+mod fault;
+mod lists;
+mod record;
+mod rows;
+mod snapshot;
+mod table;
+mod texts;
+
+pub use fault::RecordError;
+pub use record::{Item, Record, read_record};
+pub use rows::StartRows;
+pub use table::Declaration;
