@@ -1,18 +1,18 @@
 -- A page that ends a closed chunk stays as it is.
-use Rattle.std.proofs.Common.{◌≡◌, ℕ, ◌+◌, ◌-◌, ◌<◌, ◌≤◌, Bool, true, false, true≢false, List, [], ◌∷◌, ◌++◌, length, take, refl, sym, ap, ap₂, ◌∙◌, arith, length-append, Option, None, Some}
+use Rattle.std.proofs.Common.{◌≡◌, ℕ, ◌+◌, ◌-◌, ◌<◌, ◌≤◌, Bool, true, false, true≢false, List, [], ◌∷◌, ◌++◌, length, take, drop, refl, sym, ap, ap₂, ◌∙◌, arith, length-append, Option, None, Some}
 use Rattle.std.specs.Prelude.{nat_lt, nat_le}
 use Rattle.std.specs.Bool.{if◌then◌else◌}
 use Rattle.std.specs.List.{sum}
 use Rattle.std.proofs.lemmas.Bool.Decides.{nat_tests}
-use Rattle.std.proofs.lemmas.List.{map-append, take-append-le, length-map}
+use Rattle.std.proofs.lemmas.List.{map-append, take-append-le, length-map, append-nil, take-append-drop}
 use Rattle.shape_base.specs.declared.offset.Offset.{Offset}
 use Rattle.shape_base.specs.declared.entry.Entry.{Entry}
 use Rattle.shape_base.specs.Offsets.{is_before, upto, past}
 use Rattle.shape_base.specs.Chunks.{closed_chunks, chunks_from, open_chunk}
 use Rattle.shape_base.proofs.Lemmas.{chunks_stay, upto_past}
 use Rattle.shape_json.specs.Body.{entry_text}
-use Rattle.shape_json.specs.Page.{sizes_of, end_among, chunk_end, part, count_upto, part_to}
-use Rattle.shape_json.specs.Laws.{PageStays}
+use Rattle.shape_json.specs.Page.{sizes_of, end_among, chunk_end, part, count_upto, part_to, IsPage}
+use Rattle.shape_json.specs.Laws.{PageStays, PageIsFront}
 
 -- how many sizes there are in chunks
 abbrev count_in : List (List ℕ) → ℕ
@@ -95,3 +95,12 @@ page_stays least log more o h =
     ∙ ap₂ (λ (n : ℕ) (es : List Entry). part o (take (end - n) es) false) same longer.1
     ∙ ap (λ (es : List Entry). part o es false) (take-append-le (end - place) (past o log) more few)
     ∙ sym (ap (part_to log o) closed.1)
+
+-- ---- a page is a front
+
+is_part : (log : List Entry) (o : Offset) (end : Option ℕ) → IsPage log o (part_to log o end)
+is_part log o None = record { rest = []; cut = sym (append-nil (past o log)); end = refl; all = λ _. refl }
+is_part log o (Some end) = record { rest = drop (end - count_upto o log) (past o log); cut = sym (take-append-drop (end - count_upto o log) (past o log)); end = refl; all = λ t. cc }
+
+pub page_is_front : PageIsFront
+page_is_front least log o = is_part log o (chunk_end least (sizes_of log) (count_upto o log))

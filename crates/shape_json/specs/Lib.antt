@@ -1,3 +1,4 @@
+pub mod Answer
 pub mod Body
 pub mod Plain
 pub mod Page

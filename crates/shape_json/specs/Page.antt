@@ -1,5 +1,5 @@
 -- The page of a log after an offset: the part of it that one reply carries.
-use Rattle.std.specs.Prelude.{ℕ, ◌+◌, ◌-◌, nat_lt, Bool, true, false, if◌then◌else◌, List, [], ◌∷◌, length, map, take, Option, None, Some}
+use Rattle.std.specs.Prelude.{◌≡◌, ℕ, ◌+◌, ◌-◌, ◌++◌, nat_lt, Bool, true, false, if◌then◌else◌, List, [], ◌∷◌, length, map, take, Option, None, Some}
 use Rattle.shape_base.specs.declared.offset.Offset.{Offset}
 use Rattle.shape_base.specs.declared.entry.Entry.{Entry}
 use Rattle.shape_base.specs.Offsets.{upto, past, end_from}
@@ -42,3 +42,10 @@ part_to log o (Some end) = part o (take (end - count_upto o log) (past o log)) f
 -- The page after an offset: the entries past it up to the end of the first one's chunk, where that chunk is closed, and it is not up to date; otherwise all entries past it, and it is.
 abbrev pub page_of : ℕ → List Entry → Offset → Part
 page_of least log o = part_to log o (chunk_end least (sizes_of log) (count_upto o log))
+
+-- It is the page of a log after an offset as far as a client can tell: the front of what is past the offset, up to its own end, and all of it where it is up to date.
+pub record IsPage (log : List Entry) (o : Offset) (page : Part) : Type 0 where
+  pub rest : List Entry
+  pub cut : past o log ≡ page.entries ++ rest
+  pub end : page.end ≡ last_offset (end_from o) page.entries
+  pub all : page.up_to_date ≡ true → rest ≡ []

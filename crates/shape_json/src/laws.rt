@@ -1,5 +1,5 @@
 //! The laws over the definitions, each the contract of a function with nothing to do.
-ghost use Rattle.shape_json.specs.Laws.{BodiesTell, SizesAdd, LogIsTaken, LogIsOf, StopsHaveCause, PageStays, DropNext, TookAdds};
+ghost use Rattle.shape_json.specs.Laws.{BodiesTell, SizesAdd, LogIsTaken, LogIsOf, StopsHaveCause, PageStays, PageIsFront, DropNext, TookAdds, LogIsPlain, TakenIsPlain, PagesAreAsked, GoneNamesReady};
 
 /// Bodies of plain entries with one text have the same entries and the same control. So a body that
 /// was written of plain entries is read back as they are.
@@ -34,6 +34,11 @@ pub fn page_stays()
     ensures { PageStays }
 {}
 
+/// A page is the front of what is past the offset, and all of it where it is up to date.
+pub fn page_is_front()
+    ensures { PageIsFront }
+{}
+
 /// With one event more a shape is dropped by an earlier event, or else by this one.
 pub fn drop_next()
     ensures { DropNext }
@@ -43,4 +48,17 @@ pub fn drop_next()
 /// passed over, and else its entries.
 pub fn took_adds()
     ensures { TookAdds }
+{}
+
+/// The entries of a log are plain, where no two selected columns have one name.
+pub fn log_is_plain()
+    ensures defined { LogIsPlain }
+    ensures taken { TakenIsPlain }
+{}
+
+/// An answer's page is of a ready handle of the request's identity, after the offset that was asked
+/// for. Where a handle is gone, the one named in its place is ready under that identity.
+pub fn answers_fit()
+    ensures paged { PagesAreAsked }
+    ensures gone { GoneNamesReady }
 {}

@@ -1,0 +1,3 @@
+pub mod Ends
+pub mod Cut
+pub mod Cutter

@@ -1,0 +1,9 @@
+pub mod Status
+pub mod ReplyText
+pub mod Refusals
+pub mod Schema
+pub mod World
+pub mod Lawful
+pub mod Fair
+pub mod Reach
+pub mod Laws
