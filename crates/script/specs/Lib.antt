@@ -4,3 +4,4 @@ pub mod Tables
 pub mod Snapshots
 pub mod Records
 pub mod Seen
+pub mod Lines

@@ -1,5 +1,5 @@
 -- Columns and rows of a script.
-use Rattle.std.specs.Prelude.{ℕ, true, false, if◌then◌else◌, ◌==◌, List, [], ◌∷◌, Ok, Err}
+use Rattle.std.specs.Prelude.{ℕ, if◌then◌else◌, ◌==◌, List, [], ◌∷◌, Ok, Err}
 use Rattle.std.specs.Int.{w16, w32}
 use Rattle.byte_format.specs.Format.{Read, ◌>>=◌, mapped, number_at, times}
 use Rattle.shape_base.specs.declared.definition.Column.{Column}

@@ -2,9 +2,8 @@
 use Rattle.std.specs.Prelude.{ℕ, List, Ok}
 use Rattle.std.specs.Int.{w16, w32}
 use Rattle.byte_format.specs.Format.{Read, ◌>>=◌, number_at}
-use Rattle.shape_base.specs.declared.value.Value.{Value}
 use Rattle.core_events.specs.declared.event.Event.{Event}
-use Rattle.core_events.specs.declared.event.Event.TheVariants.{Snapshot, SnapBytes}
+use Rattle.core_events.specs.declared.event.Event.TheVariants.{Snapshot}
 use Rattle.script.specs.declared.rows.StartRows.{StartRows}
 use Rattle.script.specs.Texts.{text_at}
 use Rattle.script.specs.Rows.{columns_at, rows_at}

@@ -1,5 +1,5 @@
 -- Texts of a script: UTF-8.
-use Rattle.std.specs.Prelude.{ℕ, true, false, if◌then◌else◌, List, Result, Ok, Err}
+use Rattle.std.specs.Prelude.{ℕ, if◌then◌else◌, List, Result, Ok, Err}
 use Rattle.std.specs.Str.{is_utf8}
 use Rattle.byte_format.specs.Format.{Read, ◌>>=◌, string_at, chunk_at}
 

@@ -3,6 +3,7 @@
 
 mod columns;
 mod fault;
+mod lines;
 mod lists;
 mod record;
 mod rows;
@@ -11,6 +12,7 @@ mod table;
 mod texts;
 
 pub use fault::RecordError;
+pub use lines::{push_end, push_out, push_outs};
 pub use record::{Item, Record, read_record};
 pub use rows::StartRows;
 pub use table::Declaration;

@@ -1,4 +1,4 @@
-use Rattle.std.proofs.Common.{◌≡◌, Ok, ap, sym, ◌∙◌}
+use Rattle.std.proofs.Common.{Ok, ap, sym, ◌∙◌}
 use Rattle.script.proofs.Utf8.{is_text, is_no_text}
 use Rattle.script.proofs.texts.utf8_of.Goals as goal
 
