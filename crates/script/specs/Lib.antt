@@ -5,3 +5,5 @@ pub mod Snapshots
 pub mod Records
 pub mod Seen
 pub mod Lines
+pub mod Items
+pub mod Reading

@@ -5,6 +5,7 @@ mod columns;
 mod fault;
 mod lines;
 mod lists;
+mod reading;
 mod record;
 mod rows;
 mod snapshot;
@@ -13,6 +14,7 @@ mod texts;
 
 pub use fault::RecordError;
 pub use lines::{push_end, push_out, push_outs};
+pub use reading::{ReadStop, next_item};
 pub use record::{Item, Record, read_record};
 pub use rows::StartRows;
 pub use table::Declaration;
