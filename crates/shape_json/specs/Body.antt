@@ -9,6 +9,7 @@ use Rattle.shape_base.specs.declared.entry.Op.{Op}
 use Rattle.shape_base.specs.declared.entry.Op.TheVariants.{Insert, Update, Delete}
 use Rattle.shape_base.specs.declared.entry.Cell.{Cell}
 use Rattle.shape_base.specs.declared.entry.Entry.{Entry}
+use Rattle.shape_base.specs.declared.entry.KeyedRow.{KeyedRow}
 use Rattle.shape_base.specs.OffsetText.{offset_text}
 use Rattle.shape_json.specs.declared.control.Control.{Control}
 use Rattle.shape_json.specs.declared.control.Control.TheVariants.{Nothing, UpToDate, MustRefetch}
@@ -30,6 +31,10 @@ cell_text c = quoted c.name ++ codes ":" ++ value_text c.value
 -- {"name":value,"name":value}
 abbrev pub cells_text : List Cell → List ℕ
 cells_text cells = codes "{" ++ joined (map cell_text cells) ++ codes "}"
+
+-- a row by its key: the key as a JSON string, a space, the cells as a JSON object
+abbrev pub row_text : KeyedRow → List ℕ
+row_text row = quoted row.key ++ codes " " ++ cells_text row.cells
 
 abbrev pub operation : Op → List ℕ
 operation Insert = codes "insert"

@@ -6,6 +6,7 @@ mod control;
 pub mod laws;
 mod plain;
 mod read;
+mod row;
 mod size;
 mod writer;
 
@@ -13,5 +14,6 @@ pub use body::{close_body, put_entries, write_entries};
 pub use control::Control;
 pub use plain::is_plain;
 pub use read::{BodyError, read_body};
+pub use row::push_row;
 pub use size::entry_size;
 pub use writer::{put_cells, put_entry, put_string};

@@ -12,7 +12,7 @@ use shape_base::{Cell, Entry, Offset, Value};
 /// What an entry's text has beside its key, its offset and its cells; all operations have six letters.
 const FRAME: u64 = 60;
 
-fn string_size(text: &[u8]) -> u64
+pub(crate) fn string_size(text: &[u8]) -> u64
     ensures { result ≡ capped (length (quoted text.now)) }
 {
     let mut size = 2u64;
@@ -74,7 +74,7 @@ fn more_cells_size(cells: &[Cell]) -> u64
     size
 }
 
-fn cells_size(cells: &[Cell]) -> u64
+pub(crate) fn cells_size(cells: &[Cell]) -> u64
     ensures { result ≡ capped (length (cells_text cells.now)) }
 {
     let Some((first, others)) = cells.split_first() else {

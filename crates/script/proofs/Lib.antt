@@ -1,0 +1,3 @@
+mod Utf8
+pub mod Filling
+pub mod Heads

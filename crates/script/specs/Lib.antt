@@ -1,0 +1,9 @@
+pub mod Texts
+pub mod Rows
+pub mod Tables
+pub mod Snapshots
+pub mod Records
+pub mod Seen
+pub mod Lines
+pub mod Items
+pub mod Reading
