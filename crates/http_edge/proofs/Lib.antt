@@ -4,3 +4,4 @@ mod ChainLaws
 mod WritingLaws
 mod ValueLaws
 mod ReadingLaws
+mod TellLaws

@@ -4,4 +4,7 @@ pub mod ReplyLines
 pub mod ReplySeen
 pub mod ReplyValues
 pub mod ReplyAnswer
+pub mod TextLaws
+pub mod Head
+pub mod Route
 pub mod Refusals

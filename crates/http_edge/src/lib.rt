@@ -12,6 +12,7 @@ mod reply_values;
 mod request;
 mod scanning;
 mod status;
+pub mod text_laws;
 mod writing;
 
 pub use error_code::{Detail, ErrorCode};
@@ -21,4 +22,4 @@ pub use refusing::refusal_reply;
 pub use reply_error::ReplyError;
 pub use reply_head::ReplyHead;
 pub use request::{HeadError, Request};
-pub use writing::write_reply;
+pub use writing::{has_text, write_reply};
