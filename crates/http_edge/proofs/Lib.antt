@@ -8,3 +8,4 @@ mod ChainLaws
 mod WritingLaws
 mod ValueLaws
 mod ReadingLaws
+mod TellLaws

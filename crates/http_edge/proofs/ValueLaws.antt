@@ -47,7 +47,7 @@ words_read : (s : ℕ) → is_status s ≡ true → WordsRead s
 unfolding status_in late_status_in phrase
 words_read = each_status WordsRead (refl, (refl, (refl, (refl, (refl, (refl, (refl, (refl, (refl, (refl, tt))))))))))
 
-status_read : (s : ℕ) → is_status s ≡ true → status_in (status_text s) ≡ Some s
+pub status_read : (s : ℕ) → is_status s ≡ true → status_in (status_text s) ≡ Some s
 status_read s h = let code = status_is_code s h in ap status_in (status_words s code.0 code.1) ∙ words_read s h
 
 -- a value that is read as a status is that status's text
@@ -80,7 +80,7 @@ status_sound v s = one_status v (codes "200 OK") s 200 _ _ refl refl (status_wor
 
 -- ---- bytes that texts lack
 
-lacks_digits : (separator : ℕ) → (digit_value separator < 10 → ⊥) → (ds : List ℕ) → AllDigits 10 ds → LacksByte separator ds
+pub lacks_digits : (separator : ℕ) → (digit_value separator < 10 → ⊥) → (ds : List ℕ) → AllDigits 10 ds → LacksByte separator ds
 lacks_digits separator none [] h = tt
 lacks_digits separator none (d ∷ ds) h = (λ e. none (subst (λ (x : ℕ). digit_value x < 10) e h.0), lacks_digits separator none ds h.1)
 
@@ -270,3 +270,25 @@ allow_refused l s n a f other head are =
     let t : Some s ≡ Some head.status = sym (status_read s f.status) ∙ ap status_in e ∙ status_read head.status g.status in
     let same : s ≡ head.status = cc in
     other (ap (λ (x : Lines). x.allow) are.are ∙ ap (λ x. x == 405) (sym same))
+
+-- ---- one age for a text
+
+abbrev first_byte : List ℕ → ℕ
+first_byte [] = 0
+first_byte (b ∷ bytes) = b
+
+abbrev got_text : Option (List ℕ) → List ℕ
+got_text None = []
+got_text (Some text) = text
+
+pub age_same : (a b : ℕ) → a < 2 ^ 32 → b < 2 ^ 32 → cache_text a ≡ cache_text b → a ≡ b
+age_same a b small less e = go (a == 0) (b == 0) refl refl
+  where
+    go : (x y : Bool) → (a == 0) ≡ x → (b == 0) ≡ y → a ≡ b
+    go true true s t = (Decides-eqb a 0).0 s ∙ sym ((Decides-eqb b 0).0 t)
+    go true false s t = let f : first_byte (cache_text 0) ≡ first_byte (codes "public, max-age=" ++ decimal b) = ap first_byte (sym (ap cache_text ((Decides-eqb a 0).0 s)) ∙ e ∙ cache_front b false refl t) in absurd (omega (arith, f))
+    go false true s t = let f : first_byte (cache_text 0) ≡ first_byte (codes "public, max-age=" ++ decimal a) = ap first_byte (sym (ap cache_text ((Decides-eqb b 0).0 t)) ∙ sym e ∙ cache_front a false refl s) in absurd (omega (arith, f))
+    go false false s t =
+        let f = ap (λ x. got_text (behind (codes "public, max-age=") x)) (sym (cache_front a false refl s) ∙ e ∙ cache_front b false refl t) in
+        let g : decimal a ≡ decimal b = sym (ap got_text (behind_front (codes "public, max-age=") (decimal a))) ∙ f ∙ ap got_text (behind_front (codes "public, max-age=") (decimal b)) in
+        decimal_injective a b (omega arith) (omega arith) g

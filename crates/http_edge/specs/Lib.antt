@@ -4,6 +4,9 @@ pub mod ReplyLines
 pub mod ReplySeen
 pub mod ReplyValues
 pub mod ReplyAnswer
+pub mod TextLaws
+pub mod Head
+pub mod Route
 pub mod Refusals
 pub mod Schema
 pub mod World

@@ -13,6 +13,7 @@ mod reply_values;
 mod request;
 mod scanning;
 mod status;
+pub mod text_laws;
 mod writing;
 
 pub use error_code::{Detail, ErrorCode};
@@ -22,4 +23,4 @@ pub use refusing::refusal_reply;
 pub use reply_error::ReplyError;
 pub use reply_head::ReplyHead;
 pub use request::{HeadError, Request};
-pub use writing::write_reply;
+pub use writing::{has_text, write_reply};

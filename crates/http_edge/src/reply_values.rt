@@ -188,7 +188,7 @@ fn is_visible(byte: u8) -> bool
     33 <= byte && byte <= 126
 }
 
-fn are_visible(bytes: &[u8]) -> bool
+pub fn are_visible(bytes: &[u8]) -> bool
     ensures { result ≡ list_all is_visible bytes.now }
 {
     bytes.iter().all(|byte| is_visible(*byte))

@@ -7,9 +7,10 @@ ghost use Rattle.std.specs.String.{string_bytes};
 ghost use Rattle.http_edge.specs.Status.{is_status};
 ghost use Rattle.http_edge.specs.ReplyText.{line, line_if, status_text, cache_text, allow_line, close_line, is_visible, head_of, head_text, reply_text};
 
-use crate::status::phrase;
+use crate::reply_values::are_visible;
+use crate::status::{is_status, phrase};
 use bytes::Bytes;
-use shape_base::{Handle, Offset, OutOfMemory, Reply, Text};
+use shape_base::{Handle, Offset, OutOfMemory, Reply, Text, is_run};
 use std::alloc::Global;
 
 fn put(out: &mut Vec<u8>, text: &[u8]) -> Result<(), OutOfMemory>
@@ -172,6 +173,34 @@ fn capacity_of(reply: &Reply) -> usize {
     HEAD_ROOM
         .saturating_add(schema)
         .saturating_add(reply.body.as_bytes().len())
+}
+
+fn is_handle(handle: &Option<Handle>) -> bool
+    ensures { result ≡ true → IfSome handle.now IsHandle }
+{
+    if let Some(handle) = handle {
+        return 1 <= handle.number && is_run(handle.run.as_bytes());
+    }
+    true
+}
+
+fn is_schema(schema: &Option<Text>) -> bool
+    ensures { result ≡ true → IfSome schema.now (λ schema. list_all is_visible schema ≡ true) }
+{
+    if let Some(schema) = schema {
+        return are_visible(schema.as_bytes());
+    }
+    true
+}
+
+/// Whether `write_reply` takes the reply: its status is one of those that replies have, its handle has a text, and its
+/// schema has visible bytes alone.
+pub fn has_text(reply: &Reply) -> bool
+    ensures status { result ≡ true → is_status reply.now.status ≡ true }
+    ensures handle { result ≡ true → IfSome reply.now.handle IsHandle }
+    ensures schema { result ≡ true → IfSome reply.now.schema (λ schema. list_all is_visible schema ≡ true) }
+{
+    is_status(reply.status) && is_handle(&reply.handle) && is_schema(&reply.schema)
 }
 
 /// The text of a reply (RFC 9112, section 4), behind which the connection is closed or not.
