@@ -1,5 +1,5 @@
 -- Rows under one entry and its undoing, and under many.
-use Rattle.std.proofs.Common.{◌≡◌, ℕ, ◌+◌, Bool, true, false, cond, List, [], ◌∷◌, ◌++◌, drop, map, refl, sym, ◌∙◌, ap, subst, append_assoc, Option, None, Some, is_some, IfSome}
+use Rattle.std.proofs.Common.{◌≡◌, ℕ, ◌+◌, Bool, true, false, cond, List, [], ◌∷◌, ◌++◌, drop, map, refl, sym, ◌∙◌, ap, subst, append_assoc, Option, None, Some, is_some, IsSomeAnd}
 use Rattle.std.specs.Bool.{if◌then◌else◌}
 use Rattle.std.specs.Option.{option_and_then, option_map}
 use Rattle.std.specs.FinMap as fin
@@ -150,8 +150,8 @@ folds_all entries before now us n is f = f.folded ∙ ap (λ (es : List Entry). 
 pub undone_last : (us : List Undo) (u : Undo) (rest : List Undo) (m new : Map) → us ≡ rest ++ u ∷ [] → new ≡ restored u.key u.before m → undone rest new ≡ undone us m
 undone_last us u rest m new is e = ap (undone rest) e ∙ sym (undone-append rest u m) ∙ ap (λ (xs : List Undo). undone xs m) (sym is)
 
-pub at_offset : (o : Option Entry) (e : Entry) → o ≡ Some e → IfSome o (λ x. x.offset ≡ e.offset)
-at_offset o e h = subst (λ (x : Option Entry). IfSome x (λ y. y.offset ≡ e.offset)) (sym h) refl
+pub at_offset : (o : Option Entry) (e : Entry) → o ≡ Some e → IsSomeAnd o (λ x. (x.offset ≡ e.offset) × (x.key ≡ e.key))
+at_offset o e h = subst (λ (x : Option Entry). IsSomeAnd x (λ y. (y.offset ≡ e.offset) × (y.key ≡ e.key))) (sym h) (refl, refl)
 
 -- one row more
 pub row_more : (made : List KeyedRow) (left next : List Keyed) (row : Keyed) (key : List ℕ) (cells : List Cell) (all : List KeyedRow) → left ≡ row ∷ next → key ≡ row.0 → cells ≡ row.1 → made ++ map keyed_row left ≡ all

@@ -1,1 +1,4 @@
-mod Folding
+pub mod Folding
+pub mod Following
+pub mod Steps
+pub mod Taking

@@ -1,46 +1,23 @@
 //! Rows by their keys, under the entries of a log.
-ghost use Rattle.std.specs.Prelude.{◌≡◌, List, unwrap_or, true, false, Option, Some, None, map, IfOk, OnOk, IsErrOf, if◌then◌else◌};
+ghost use Rattle.std.specs.Prelude.{◌≡◌, List, unwrap_or, true, false, Option, Some, None, map, IfOk, OnOk, if◌then◌else◌};
 ghost use Rattle.std.specs.FinMap as fin;
 ghost use Rattle.shape_base.specs.declared.entry.Cell.{Cell};
-ghost use Rattle.shape_base.specs.Log.{replaced, value_in, fold_op, fold_from, first_fault};
-ghost use Rattle.fold_client.specs.Rows.{keyed_row, restored, undone, IsFirstFault, Undoes};
+ghost use Rattle.shape_base.specs.Log.{replaced, value_in, fold_op};
+ghost use Rattle.fold_client.specs.Rows.{keyed_row, restored, undone, IsFolded, Undoes};
 
 use shape_base::{
     Cell, Cells, Duplicate, Entry, KeyedRow, KeyedRows, Offset, Op, OutOfMemory, Text,
     are_same_texts,
 };
-use std::alloc::{AllocFailed, Global};
+use std::alloc::Global;
 use std::collections::BTreeMap;
 use std::marker::Model;
 
-/// Why entries were not folded.
-#[derive(Clone, Copy, Debug, PartialEq, Eq)]
-pub enum FoldError {
-    /// The entry at this offset inserts a key that is there, or updates or deletes one that is not.
-    BadFold { offset: Offset },
-    OutOfMemory,
-}
-
-impl From<OutOfMemory> for FoldError {
-    ghost use Rattle.std.specs.Prelude.{◌≡◌};
-    ghost use Rattle.fold_client.specs.declared.rows.FoldError.TheVariants as errors;
-
-    ghost from_gives = { λ _ e. e ≡ errors.OutOfMemory };
-
-    fn from(_error: OutOfMemory) -> FoldError {
-        FoldError::OutOfMemory
-    }
-}
-
-impl<T: Drop> From<AllocFailed<T>> for FoldError {
-    ghost use Rattle.std.specs.Prelude.{◌≡◌};
-    ghost use Rattle.fold_client.specs.declared.rows.FoldError.TheVariants as errors;
-
-    ghost from_gives = { λ _ e. e ≡ errors.OutOfMemory };
-
-    fn from(_error: AllocFailed<T>) -> FoldError {
-        FoldError::OutOfMemory
-    }
+/// An entry that could not be folded: it inserts a key that is there, or updates or deletes one that is not.
+#[derive(Drop)]
+pub struct Fault {
+    pub offset: Offset,
+    pub key: Text,
 }
 
 /// Rows by their key texts: a contract sees the map from each key text to the row's cells.
@@ -206,23 +183,23 @@ impl FoldedRows {
 
     /// Folds entries, each of which finds what it needs in the rows after those before it.
     ///
-    /// `BadFold` exactly where one does not, with the offset of the first such entry; the rows are then as they were. After want of memory nothing is said of
-    /// the rows.
-    pub fn fold(&mut self, entries: &[Entry]) -> Result<(), FoldError>
-        ensures ok { OnOk result (fold_from entries.now self.old ≡ Some self.new) }
-        ensures bad { (offset : Offset) → IsErrOf result (FoldError.BadFold offset) → (self.new ≡ self.old) × IsFirstFault entries.now self.old offset }
+    /// Where one does not, the first such entry is named, and the rows are as they were. After want of memory nothing is said of the rows.
+    pub fn fold(&mut self, entries: &[Entry]) -> Result<Option<Fault>, OutOfMemory>
+        ensures { IfOk result (IsFolded entries.now self.old self.new) }
     {
         let mut folded = Vec::new(self.alloc);
         for entry in entries {
             let Some(undo) = self.fold_one(entry)? else {
+                let key = entry.key.copy(self.alloc)?;
                 self.undo(folded)?;
-                return Err(FoldError::BadFold {
+                return Ok(Some(Fault {
                     offset: entry.offset,
-                });
+                    key,
+                }));
             };
             folded.push(undo)?;
         }
-        Ok(())
+        Ok(None)
     }
 
     /// The rows in byte order of their keys, copied.
