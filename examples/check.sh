@@ -1,6 +1,6 @@
 #!/usr/bin/env bash
-# Makes the scripts of this folder from their texts and compares them; replays them and compares what is printed; takes the frames of its wires, cut into
-# pieces of several sizes, and compares their counts. Skips where a tool is missing. Takes the programs that `rt ci` or `rt run` left, where no source is newer.
+# Makes the scripts of this folder from their texts and compares them; replays them and compares what is printed; makes and tries the runs of `runs.cases`;
+# takes the frames of its wires, cut into pieces of several sizes, and compares their counts. Skips where a tool is missing. Takes the programs that `rt ci` or `rt run` left, where no source is newer.
 set -u
 cd "$(dirname "$0")/.." || exit 1
 
@@ -21,6 +21,10 @@ for script in examples/*.script; do
     crates/shape_replay/out/shape_replay replay < "$script" | cmp - "${script%.script}.output" || status=1
     echo "$script"
 done
+if command -v python3 > /dev/null; then
+    python3 examples/runs.py crates/shape_replay/out/shape_replay < examples/runs.cases || status=1
+    echo examples/runs.cases
+fi
 built stream_bench frames 7
 for wire in examples/*.wire; do
     for size in 1 7 100 4096 65536; do

@@ -52,6 +52,8 @@ in_memory() {
 prints whole "$wanted" "$replay" replay < "$script"
 refuses no_words 2 usage "$script"
 refuses another_word 2 usage "$script" Replay
+refuses an_empty_word 2 usage "$script" ''
+refuses a_word_with_a_blank 2 usage "$script" 'replay '
 refuses a_second_word 2 usage "$script" replay replay
 
 # Writes: a full device, a closed output, a pipe that nobody reads, a pipe that takes single bytes.
@@ -118,6 +120,11 @@ in_memory 200000 "$replay" replay < "$folder/claim" > "$answer" 2> "$said"
 ended claim_of_4_GiB 6 unfinished $?
 { printf 'M\003\377\377\374'; head -c 67108861 /dev/zero; } > "$folder/long"
 refuses too_long 7 too_long "$folder/long" replay
+# A script may have 67,108,864 bytes: so many are unfinished, and one more is too long.
+{ printf 'T\377\377\377\377'; head -c 67108859 /dev/zero; } > "$folder/long"
+refuses as_long_as_may_be 6 unfinished "$folder/long" replay
+printf '\0' >> "$folder/long"
+refuses one_byte_too_long 7 too_long "$folder/long" replay
 printf 'M\0\0\0\006T\377\377\377\377\0' > "$folder/claim"
 in_memory 200000 "$replay" replay < "$folder/claim" > "$answer" 2> "$said"
 ended truncate_of_4294967295 5 'bad_script not_built' $?

@@ -12,8 +12,6 @@ mod stages;
 mod stop;
 mod stream;
 mod table;
-#[cfg(test)]
-mod tests;
 
 use shape_base::{Input, Output};
 use std::io::BufReader;
