@@ -10,13 +10,22 @@ pub enum Event {
     /// The stream begins anew: its frames, relations and half-built transaction are emptied.
     Anew,
     /// One message of the stream (PostgreSQL manual, 55.9 Logical Replication Message Formats).
-    Message { bytes: Octets },
+    Message {
+        bytes: Octets,
+    },
     /// The next bytes of the stream's frames (PostgreSQL manual, 55.4 Streaming Replication Protocol).
-    FrameBytes { bytes: Octets },
+    FrameBytes {
+        bytes: Octets,
+    },
     /// The head of a request (RFC 9112), whole or cut. It makes an exchange.
-    RequestHead { bytes: Octets },
+    RequestHead {
+        bytes: Octets,
+    },
     /// The next bytes of a snapshot's connection, for the exchange that owns the snapshot.
-    SnapBytes { exchange: u32, bytes: Octets },
+    SnapBytes {
+        exchange: u32,
+        bytes: Octets,
+    },
     /// A whole snapshot for the exchange that owns it.
     Snapshot {
         exchange: u32,
@@ -24,17 +33,33 @@ pub enum Event {
         rows: Rows,
     },
     /// A snapshot's connection ended, or failed.
-    SnapEnd { exchange: u32, failed: bool },
+    SnapEnd {
+        exchange: u32,
+        failed: bool,
+    },
     /// A new client. Its query is form-encoded: `table`, and optionally `columns` and `where`.
-    NewClient { pairs: Octets },
+    NewClient {
+        pairs: Octets,
+    },
     /// The client sends its next request. It makes an exchange, which is then the client's open one.
-    SendNext { client: u32 },
+    SendNext {
+        client: u32,
+    },
     /// The client takes the reply of an exchange, and forgets its open one.
-    Receive { client: u32, exchange: u32 },
+    Receive {
+        client: u32,
+        exchange: u32,
+    },
     /// The client asks and takes until it is up to date, is refused or has to wait.
-    Watch { client: u32 },
+    Watch {
+        client: u32,
+    },
     /// The shape of this handle number is dropped.
-    Remove { number: u64 },
+    Remove {
+        number: u64,
+    },
     /// The clock shows so many milliseconds.
-    Moment { now: u64 },
+    Moment {
+        now: u64,
+    },
 }

@@ -5,9 +5,14 @@ use shape_base::{Handle, KeyedRows, Octets, Offset, Seq, Text};
 #[derive(Drop)]
 pub enum Out {
     /// An exchange that a request's head made was given its reply, these bytes.
-    Given { exchange: u32, bytes: Octets },
+    Given {
+        exchange: u32,
+        bytes: Octets,
+    },
     /// The exchange had no whole head, and more bytes could have completed it.
-    Cut { exchange: u32 },
+    Cut {
+        exchange: u32,
+    },
     /// A client is up to date with this log up to this offset. Its rows stand in byte order of their keys.
     Block {
         client: u32,
@@ -16,11 +21,19 @@ pub enum Out {
         rows: KeyedRows,
     },
     /// A client took a reply by which it has to fetch anew.
-    Refetched { client: u32 },
+    Refetched {
+        client: u32,
+    },
     /// A client took a reply of another status.
-    Refused { client: u32, status: u16 },
+    Refused {
+        client: u32,
+        status: u16,
+    },
     /// The stream was refused: why, and at which byte or message since it began.
-    StreamRefused { name: Text, place: u64 },
+    StreamRefused {
+        name: Text,
+        place: u64,
+    },
 }
 
 /// What one event leads to, in order.

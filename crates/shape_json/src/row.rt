@@ -11,7 +11,9 @@ pub fn push_row(out: &mut Vec<u8>, row: &KeyedRow) -> Result<(), OutOfMemory>
     ensures { OnOk result (out.new.items ≡ out.old.items ++ row_text row.now) }
 {
     let key = string_size(row.key.as_bytes());
-    let size = cells_size(row.cells.as_slice()).saturating_add(key).saturating_add(1);
+    let size = cells_size(row.cells.as_slice())
+        .saturating_add(key)
+        .saturating_add(1);
     if size == u64::MAX {
         return Err(OutOfMemory);
     }
