@@ -40,18 +40,13 @@ fn cuts_line(alloc: Global, text: &str) -> Result<String, OutOfMemory> {
     let mut partial = 0u64;
     let mut refused = 0u64;
     let mut read = 0u64;
-    let mut end = 0;
-    while end <= bytes.len() {
+    for end in 0..bytes.len() + 1 {
         match read_reply(alloc, &bytes[..end]) {
             Ok(_) => read = read.saturating_add(1),
             Err(ReplyError::Partial) => partial = partial.saturating_add(1),
             Err(ReplyError::BadReply) => refused = refused.saturating_add(1),
             Err(ReplyError::OutOfMemory) => return Err(OutOfMemory),
         }
-        if end == bytes.len() {
-            break;
-        }
-        end += 1;
     }
     Ok(format!(in alloc; "partial {partial} bad {refused} read {read}")?)
 }
