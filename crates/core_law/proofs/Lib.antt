@@ -1,0 +1,4 @@
+pub mod Lists
+pub mod Settled
+pub mod Server
+pub mod ServerSteps

@@ -1,0 +1,5 @@
+pub mod Situation
+pub mod Steps
+pub mod Clients
+pub mod Run
+pub mod Laws
