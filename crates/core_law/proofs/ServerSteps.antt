@@ -173,7 +173,7 @@ pub length_received : (o : Options) (es : List RegistryEvent) (tx : Tx) (n front
 length_received o es tx n front [] = refl
 length_received o es tx n front (x ∷ xs) = ap (λ n. suc n) (length_received o es tx (n + 1) (front + bytes_kept o (took_one es n tx (front + all_bytes o xs) x)) xs)
 
-id_stays : (txs more : List Tx) (n : ℕ) → n ≤ length txs → id_before (txs ++ more) n ≡ id_before txs n
+pub id_stays : (txs more : List Tx) (n : ℕ) → n ≤ length txs → id_before (txs ++ more) n ≡ id_before txs n
 id_stays txs more zero le = refl
 id_stays txs more (suc n) le = ap (option_map (λ (tx : Tx). tx.xid)) (place_before txs more n (omega (arith, le)))
 

@@ -22,6 +22,7 @@ use Rattle.http_edge.specs.World.{World}
 use Rattle.http_edge.specs.Lawful.{Asked, AsksFor, IsLawful}
 use Rattle.http_edge.specs.Fair.{IsFair}
 use Rattle.http_edge.specs.Route.{IsAskOf}
+use Rattle.fold_client.specs.declared.client.Query.{Query}
 use Rattle.fold_client.specs.Client.{nothing_held, Says}
 use Rattle.fold_client.specs.Following.{Heard, start, followed, IsCurrent}
 use Rattle.fold_client.specs.Target.{target_text}
@@ -41,6 +42,11 @@ pub record IsStart (o : Options) : Type 0 where
 abbrev pub IsRead : Options → Option (List ℕ) → Asked → Type 0
 IsRead o target asked = (ask : Ask) → asked ≡ AsksFor ask → IsSomeAnd target (λ text. IsAskOf text o.tables ask)
 
+-- What a client's first target asks for is all that reading it gives: nothing where it is refused.
+pub record IsFirst (o : Options) (query : Query) (asked : Asked) : Type 0 where
+  pub asks : (ask : Ask) → asked ≡ AsksFor ask → IsAskOf (target_text query nothing_held) o.tables ask
+  pub reads : (ask : Ask) → IsAskOf (target_text query nothing_held) o.tables ask → asked ≡ AsksFor ask
+
 -- What an event's target asks for, and what a client's first one does, is what reading it gives.
 abbrev pub IsRoutedEvent : Options → Event → Type 0
 IsRoutedEvent o (RequestCame target asked close) = IsRead o target asked
@@ -50,7 +56,7 @@ IsRoutedEvent o (SnapshotEnded e fault) = Unit {0}
 IsRoutedEvent o (Committed tx) = Unit {0}
 IsRoutedEvent o (Remove n) = Unit {0}
 IsRoutedEvent o (Moment now) = Unit {0}
-IsRoutedEvent o (Joined query asked) = IsRead o (Some (target_text query nothing_held)) asked
+IsRoutedEvent o (Joined query asked) = IsFirst o query asked
 IsRoutedEvent o (SendNext n) = Unit {0}
 IsRoutedEvent o (Receive n e) = Unit {0}
 IsRoutedEvent o (Watch n) = Unit {0}

@@ -1,6 +1,6 @@
 -- What one event does to the server and to the exchanges.
 use Rattle.std.specs.Prelude.{ℕ, zero, suc, ◌+◌, ◌-◌, Bool, true, false, not, ◌&&◌, ◌||◌, ◌==◌, nat_lt, if◌then◌else◌, List, [], ◌∷◌, ◌++◌, length, map, Option, None, Some, slice_get, is_none, is_some}
-use Rattle.std.specs.Option.{option_map, option_and_then}
+use Rattle.std.specs.Option.{option_map, option_and_then, option_or}
 use Rattle.std.specs.List.{sum}
 use Rattle.shape_base.specs.declared.entry.Entry.{Entry}
 use Rattle.shape_base.specs.declared.change.Tx.{Tx}
@@ -194,9 +194,9 @@ after_commit o v tx = let next = with_commit o v tx in swept_from o tx 1 next.sh
 abbrev pub with_exchange : Situation → Exchange → Situation
 with_exchange s x = record s { exchanges = s.exchanges ++ x ∷ [] }
 
--- it has its refusal at once
+-- it has its refusal at once, unless it has a reply
 abbrev pub refused_at : Server → ErrorCode → Exchange → Exchange
-refused_at v code x = record x { given = Some (heard_at v x.asked (refused_with code)) }
+refused_at v code x = record x { given = option_or x.given (Some (heard_at v x.asked (refused_with code))) }
 
 abbrev pub with_role : Role → Exchange → Exchange
 with_role role x = record x { role = role }
