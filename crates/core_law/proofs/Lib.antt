@@ -5,3 +5,6 @@ pub mod ServerSteps
 pub mod Worlds
 pub mod Replies
 pub mod Fields
+pub mod Registrations
+pub mod Exchanges
+pub mod Turns

@@ -60,7 +60,7 @@ HasRole v asked HasNone = Unit {0}
 
 -- ---- lawful replies
 
-abbrev given_of : Server → Written → Given
+abbrev pub given_of : Server → Written → Given
 given_of v w = record { reply = w.reply; seen = length v.registry; shown = length v.commits }
 
 record IsWritten (reply : Option Reply) (body : Option Body) (w : Written) : Type 0 where
@@ -156,11 +156,11 @@ entries_say entries control plain offsets = record {
   back = λ others other p q e. let same = body_once entries others control other plain p offsets q e in ap (λ es. Some (record { entries = es; control = control })) same.0 ∙ ap (λ c. Some (record { entries = others; control = c })) same.1;
 }
 
-abbrev AreRead : Part → Type 0
+abbrev pub AreRead : Part → Type 0
 AreRead page = ArePlain page.entries × HaveOffsets page.entries
 
 -- the entries of a page can be read back
-page_read : (w : World) (g : Given) (late : Bool) (ask : Ask) (handle : Handle) (from : Offset) (page : Part) → IsGoodWorld w → answer_of (situation w g late) ask ≡ Paged handle from page → AreRead page
+pub page_read : (w : World) (g : Given) (late : Bool) (ask : Ask) (handle : Handle) (from : Offset) (page : Part) → IsGoodWorld w → answer_of (situation w g late) ask ≡ Paged handle from page → AreRead page
 page_read w g late ask handle from page good e =
     let p = pages_are_asked (situation w g late) ask handle from page e in
     let ready = ready_later w g.seen handle.number p.ready in

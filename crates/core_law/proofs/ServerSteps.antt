@@ -28,7 +28,7 @@ use Rattle.http_edge.specs.declared.error_code.ErrorCode.TheVariants as codes
 use Rattle.core_law.specs.Situation.{Options, Shape, Server, shape_at, reader_under, reader_for}
 use Rattle.core_law.specs.Steps.{with_event, with_registry, with_shape_event, redefined, dropped, with_shape, took_one, took_from, bytes_kept, all_bytes, with_commit, definition_by, removed_for, swept_from, after_commit, id_before, stale_by, untrue_by, or_else, refusal_of_snapshot, started_by, started}
 use Rattle.core_law.proofs.Lists.{place_stays, one_more, last_place, place_before, some_same}
-use Rattle.core_law.proofs.Server.{Alike, IsShape, FitsShape, Started, Named, Sound, GoesOn, Better, alike_same, better_same, better_trans, snapshot_comes, taken-append, alike_event, started_on, named_on, either_false, first_true, shape_stays, removes, redefines_some, at_changed_here, event_better}
+use Rattle.core_law.proofs.Server.{Alike, IsShape, FitsShape, Started, Named, Sound, GoesOn, Extends, Better, alike_same, better_same, better_trans, snapshot_comes, taken-append, alike_event, started_on, named_on, either_false, first_true, shape_stays, removes, redefines_some, at_changed_here, event_better}
 
 -- ---- a shape is registered
 
@@ -77,6 +77,15 @@ less_by m n le other = pick (m == n) refl
       where
         less : (m n : ℕ) → m ≤ n → (m ≡ n → ⊥) → m < n
         less m n le f = grind (arith, nat_tests, le, f)
+
+pub shape_on : (v : Server) (ask : Ask) (reader : Reader) → Extends v (with_shape v ask reader)
+shape_on v ask reader = record {
+  events = Registered (length v.shapes + 1) ask.identity ask.table (last_id v.registry) ∷ [];
+  registry = refl;
+  txs = [];
+  commits = sym (append-nil v.commits);
+  shapes = λ n y h. record { now = y; there = at_stays v.shapes _ n y h; alike = alike_same y };
+}
 
 pub registers : (o : Options) (v : Server) (ask : Ask) (reader : Reader) (d : TableDef) → d.table ≡ ask.table → reader_under o ask d ≡ Some reader → live_under v.registry ask.identity ≡ None → HasRoom o.limits.shapes v.registry → Better o v (with_shape v ask reader)
 registers o v ask reader d placed reads free room =
