@@ -8,3 +8,4 @@ pub mod Fields
 pub mod Registrations
 pub mod Exchanges
 pub mod Turns
+pub mod Blocks
