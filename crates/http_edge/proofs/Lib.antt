@@ -9,3 +9,8 @@ mod WritingLaws
 mod ValueLaws
 mod ReadingLaws
 mod TellLaws
+pub mod TextFronts
+pub mod FieldLaws
+pub mod Spaces
+pub mod Heads
+pub mod HeadTells

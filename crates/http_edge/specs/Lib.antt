@@ -5,7 +5,9 @@ pub mod ReplySeen
 pub mod ReplyValues
 pub mod ReplyAnswer
 pub mod TextLaws
+pub mod TextFront
 pub mod Head
+pub mod HeadLaws
 pub mod Route
 pub mod Refusals
 pub mod Schema

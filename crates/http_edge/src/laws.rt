@@ -1,4 +1,5 @@
 //! The laws over the definitions, each the contract of a function with nothing to do.
+ghost use Rattle.http_edge.specs.HeadLaws.{HeadsTell};
 ghost use Rattle.http_edge.specs.Laws.{LawfulIsFair, FairStays};
 
 /// In a good history a lawful reply is fair.
@@ -9,4 +10,9 @@ pub fn lawful_is_fair()
 /// A reply that was fair stays so, whatever happens to the registry later.
 pub fn fair_stays()
     ensures { FairStays }
+{}
+
+/// The bytes determine how the head that they begin with is answered, unless memory is wanted.
+pub fn heads_tell()
+    ensures { HeadsTell }
 {}

@@ -2,6 +2,8 @@
 #![tactic(auto)]
 
 mod error_code;
+mod head;
+mod head_fields;
 pub mod laws;
 mod reading;
 mod refusal;
@@ -13,10 +15,12 @@ mod reply_values;
 mod request;
 mod scanning;
 mod status;
+mod text_front;
 pub mod text_laws;
 mod writing;
 
 pub use error_code::{Detail, ErrorCode};
+pub use head::read_request;
 pub use reading::read_reply;
 pub use refusal::Refusal;
 pub use refusing::refusal_reply;
