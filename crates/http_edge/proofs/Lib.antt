@@ -14,3 +14,6 @@ pub mod FieldLaws
 pub mod Spaces
 pub mod Heads
 pub mod HeadTells
+mod ParameterLaws
+mod NameLaws
+mod RouteLaws

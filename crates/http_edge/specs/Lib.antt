@@ -8,7 +8,9 @@ pub mod TextLaws
 pub mod TextFront
 pub mod Head
 pub mod HeadLaws
+pub mod Parameters
 pub mod Route
+pub mod Tried
 pub mod Refusals
 pub mod Schema
 pub mod World
