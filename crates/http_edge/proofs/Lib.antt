@@ -17,3 +17,4 @@ pub mod HeadTells
 mod ParameterLaws
 mod NameLaws
 mod RouteLaws
+mod RouteTells

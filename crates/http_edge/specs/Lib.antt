@@ -10,6 +10,7 @@ pub mod Head
 pub mod HeadLaws
 pub mod Parameters
 pub mod Route
+pub mod RouteLaws
 pub mod Tried
 pub mod Refusals
 pub mod Schema
