@@ -8,7 +8,7 @@ mod ChainLaws
 mod WritingLaws
 mod ValueLaws
 mod ReadingLaws
-mod TellLaws
+pub mod TellLaws
 pub mod TextFronts
 pub mod FieldLaws
 pub mod Spaces
