@@ -1,5 +1,5 @@
 //! Heads of requests, read (RFC 9112, sections 2 to 6).
-ghost use Rattle.std.specs.Prelude.{◌≡◌, ◌≢◌, ℕ, ◌<◌, ◌≤◌, List, ◌∷◌, ◌++◌, length, take, IfSome, IsNone, MatchBool, Err};
+ghost use Rattle.std.specs.Prelude.{◌≡◌, ◌≢◌, ℕ, ◌≤◌, List, ◌∷◌, ◌++◌, length, IfSome, IsNone, MatchBool, Err};
 ghost use Rattle.shape_base.specs.Decimal.{IsSplit, LacksByte};
 ghost use Rattle.httparse.specs.Grammar.{HasNoRequest, NeverHasRequest, MayBecomeRequest};
 ghost use Rattle.httparse.specs.Spans.{IsRequestWithin, RequestOverflows, IsRequestOf as IsHeadOf};
@@ -28,8 +28,8 @@ fn behind_only_space(bytes: &[u8]) -> Option<&[u8]>
     }
 }
 
-/// Whether bytes can follow these that make a head. The parser does not tell where they end inside the target, whose
-/// bytes have to be UTF-8 once it is whole.
+/// Whether bytes can follow these that make a head. The parser does not tell where they end inside the target, which has
+/// to be UTF-8 once it is whole. The method ends at the first space and the target at the second, so such bytes have one.
 fn can_begin(bytes: &[u8]) -> bool
     requires { MayBecomeRequest bytes.now }
     ensures { MatchBool result (CanBegin bytes.now) (NeverHasRequest bytes.now) }

@@ -1,7 +1,7 @@
 //! What the fields of a head say of the body and of the connection.
 ghost use Rattle.std.specs.Prelude.{◌≡◌, ◌==◌, ◌||◌, [], ◌∷◌, ◌++◌, length, reverse, All, MatchOption};
 ghost use Rattle.std.specs.List.{list_any};
-ghost use Rattle.httparse.specs.Grammar.{skip_ows, trim_ows};
+ghost use Rattle.httparse.specs.Grammar.{skip_ows};
 ghost use Rattle.httparse.specs.Spans.{IsHeaderWithin, span_bytes};
 ghost use Rattle.http_edge.specs.Head.{is_named, says_body, is_close, has_close, says_close};
 
