@@ -2,3 +2,5 @@ pub mod Folding
 pub mod Following
 pub mod Steps
 pub mod Taking
+mod TargetForms
+mod TargetLaw

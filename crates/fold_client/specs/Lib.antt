@@ -5,3 +5,4 @@ pub mod Following
 pub mod Target
 pub mod Taking
 pub mod Laws
+pub mod TargetRead

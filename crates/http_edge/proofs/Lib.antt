@@ -8,4 +8,13 @@ mod ChainLaws
 mod WritingLaws
 mod ValueLaws
 mod ReadingLaws
-mod TellLaws
+pub mod TellLaws
+pub mod TextFronts
+pub mod FieldLaws
+pub mod Spaces
+pub mod Heads
+pub mod HeadTells
+mod ParameterLaws
+mod NameLaws
+mod RouteLaws
+mod RouteTells

@@ -33,7 +33,7 @@ abbrev Here : {A : Type 0} → Option A → Type 0
 Here None = ⊥
 Here (Some a) = Unit {0}
 
-some_same : {A : Type 0} (a b : A) → ◌≡◌ {A = Option A} (Some a) (Some b) → a ≡ b
+pub some_same : {A : Type 0} (a b : A) → ◌≡◌ {A = Option A} (Some a) (Some b) → a ≡ b
 some_same a b e = ap (given a) e
 
 option_same : {A : Type 0} (G : A → Type 0) (text : A → List ℕ) → ((a b : A) → G a → G b → text a ≡ text b → a ≡ b) → (o p : Option A) → IfSome o G → IfSome p G → option_map text o ≡ option_map text p → o ≡ p
@@ -57,7 +57,7 @@ halves separator (x ∷ a) (y ∷ a') b b' h k e =
 no_digit : (separator n : ℕ) → (digit_value separator < 10 → ⊥) → n < 2 ^ 64 → LacksByte separator (decimal n)
 no_digit separator n none small = lacks_digits separator none (decimal n) (decimal_is_IsNumeral n small).0.1
 
-handle_same : (a b : Handle) → IsHandle a → IsHandle b → handle_text a ≡ handle_text b → a ≡ b
+pub handle_same : (a b : Handle) → IsHandle a → IsHandle b → handle_text a ≡ handle_text b → a ≡ b
 handle_same a b g h e =
     let parts = halves 45 (decimal a.number) (decimal b.number) a.run b.run (no_digit 45 a.number (λ k. absurd (omega arith)) g.small) (no_digit 45 b.number (λ k. absurd (omega arith)) h.small) e in
     let n = decimal_injective a.number b.number g.small h.small parts.0 in
@@ -72,10 +72,10 @@ no_start : (ds rest : List ℕ) → LacksByte 45 ds → 45 ∷ 49 ∷ [] ≡ ds 
 no_start [] rest h e = let f : 45 ≡ 95 = ap first_byte e in absurd (omega (arith, f))
 no_start (d ∷ ds) rest h e = h.0 (sym (ap first_byte e))
 
-start_apart : (l p : ℕ) → l < 2 ^ 64 → offset_text Start ≡ offset_text (At l p) → ⊥
+pub start_apart : (l p : ℕ) → l < 2 ^ 64 → offset_text Start ≡ offset_text (At l p) → ⊥
 start_apart l p small e = no_start (decimal l) (decimal p) (no_digit 45 l (λ k. absurd (omega arith)) small) e
 
-offset_same : (a b : Offset) → IsOffset a → IsOffset b → offset_text a ≡ offset_text b → a ≡ b
+pub offset_same : (a b : Offset) → IsOffset a → IsOffset b → offset_text a ≡ offset_text b → a ≡ b
 offset_same Start Start g h e = refl
 offset_same Start (At m q) g h e = absurd (start_apart m q h.0 e)
 offset_same (At l p) Start g h e = absurd (start_apart l p g.0 (sym e))

@@ -5,8 +5,13 @@ pub mod ReplySeen
 pub mod ReplyValues
 pub mod ReplyAnswer
 pub mod TextLaws
+pub mod TextFront
 pub mod Head
+pub mod HeadLaws
+pub mod Parameters
 pub mod Route
+pub mod RouteLaws
+pub mod Tried
 pub mod Refusals
 pub mod Schema
 pub mod World

@@ -5,17 +5,21 @@
 //! | `read BYTES` | the reply that the bytes begin with: its length, status, handle, offset, schema, cursor, age and body, with `-` in the place of what is absent; or `partial` or `bad reply` |
 //! | `cuts BYTES` | how many fronts of the bytes, themselves among them, are partial, how many are refused, and how many are read |
 //! | `again BYTES` | the reply that the bytes begin with, written again: its length, and its text |
+//! | `head BYTES` | the head that the bytes begin with: its length, whether its method is GET, what becomes of the connection, and its target; or why they are refused |
+//! | `fronts BYTES` | how many fronts of the bytes, themselves among them, are answered in each way when they are read as a head |
 //! | `refuse WORD ..` | the reply that refuses with this word and numbers: its length, and its text |
 //! | `close WORD ..` | the same, behind which the connection is closed |
 //!
-//! A backslash and two hexadecimal digits stand for one byte.
+//! A backslash and two hexadecimal digits stand for one byte. In the bytes of heads `~N*BYTES~` stands for N times these bytes.
 #![tactic(auto)]
 
 mod codes;
+mod heads;
 mod printing;
 
 use cases::{Answers, answer_lines, bytes_of, cut};
 use codes::code_of;
+use heads::{fronts_line, head_line};
 use http_edge::{ReplyError, read_reply, refusal_reply};
 use printing::{reply_line, written_line};
 use shape_base::OutOfMemory;
@@ -78,6 +82,8 @@ impl Answers for EdgeCases {
             "read" => read_line(alloc, rest)?,
             "cuts" => cuts_line(alloc, rest)?,
             "again" => again_line(alloc, rest)?,
+            "head" => head_line(alloc, rest)?,
+            "fronts" => fronts_line(alloc, rest)?,
             "refuse" => refusal_line(alloc, rest, false)?,
             "close" => refusal_line(alloc, rest, true)?,
             _ => format!(in alloc; "no such line")?,
