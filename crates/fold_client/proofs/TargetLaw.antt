@@ -18,6 +18,7 @@ use Rattle.shape_base.specs.Tables.{same_text}
 use Rattle.shape_base.specs.Handle.{IsHandle, handle_text}
 use Rattle.shape_base.specs.OffsetText.{IsOffset, offset_text}
 use Rattle.shape_base.proofs.Lemmas.{Decides-same_text}
+use Rattle.shape_def.specs.Identity.{identity}
 use Rattle.http_edge.specs.declared.request.Request.{Request}
 use Rattle.http_edge.specs.declared.refusal.Refusal.{Refusal}
 use Rattle.http_edge.specs.declared.refusal.Refusal.TheVariants as refusals
@@ -43,23 +44,23 @@ no_mark (b ∷ bytes) h = let p = and_parts (not (b == 63)) _ h in All-cons (λ 
 target_path : (form : List ℕ) → path_of (codes "/v1/shape?" ++ form) ≡ served_path
 target_path form = split_once_before_at 63 (codes "/v1/shape") form (no_mark (codes "/v1/shape") refl)
 
-target_query : (form : List ℕ) → query_of (codes "/v1/shape?" ++ form) ≡ form
+pub target_query : (form : List ℕ) → query_of (codes "/v1/shape?" ++ form) ≡ form
 target_query form = split_once_after_at 63 (codes "/v1/shape") form (no_mark (codes "/v1/shape") refl)
 
 -- ---- the values
 
 -- what stands under each name that is looked at
-record AreRead (t o : List ℕ) (cs w h : Option (List ℕ)) (k : Option ℕ) (pairs : List Pair) : Type 0 where
-  table : value_under (codes "table") pairs ≡ Some t
-  columns : value_under (codes "columns") pairs ≡ cs
-  clause : value_under (codes "where") pairs ≡ w
-  handle : value_under (codes "handle") pairs ≡ h
-  offset : value_under (codes "offset") pairs ≡ Some o
-  live : value_under (codes "live") pairs ≡ option_map (λ n. codes "true") k
-  cursor : value_under (codes "cursor") pairs ≡ option_map decimal k
-  once : has_repeated pairs ≡ false
+pub record AreRead (t o : List ℕ) (cs w h : Option (List ℕ)) (k : Option ℕ) (pairs : List Pair) : Type 0 where
+  pub table : value_under (codes "table") pairs ≡ Some t
+  pub columns : value_under (codes "columns") pairs ≡ cs
+  pub clause : value_under (codes "where") pairs ≡ w
+  pub handle : value_under (codes "handle") pairs ≡ h
+  pub offset : value_under (codes "offset") pairs ≡ Some o
+  pub live : value_under (codes "live") pairs ≡ option_map (λ n. codes "true") k
+  pub cursor : value_under (codes "cursor") pairs ≡ option_map decimal k
+  pub once : has_repeated pairs ≡ false
 
-are_read : (table offset : List ℕ) (columns clause handle left : Option (List ℕ)) (cursor : Option ℕ) → AreRead table offset columns clause handle cursor (parameters table offset columns clause handle left cursor)
+pub are_read : (table offset : List ℕ) (columns clause handle left : Option (List ℕ)) (cursor : Option ℕ) → AreRead table offset columns clause handle cursor (parameters table offset columns clause handle left cursor)
 are_read table offset None None None None None = record { table = refl; columns = refl; clause = refl; handle = refl; offset = refl; live = refl; cursor = refl; once = refl }
 are_read table offset None None None None (Some k) = record { table = refl; columns = refl; clause = refl; handle = refl; offset = refl; live = refl; cursor = refl; once = refl }
 are_read table offset None None None (Some l) None = record { table = refl; columns = refl; clause = refl; handle = refl; offset = refl; live = refl; cursor = refl; once = refl }
@@ -93,7 +94,7 @@ are_read table offset (Some cs) (Some w) (Some h) None (Some k) = record { table
 are_read table offset (Some cs) (Some w) (Some h) (Some l) None = record { table = refl; columns = refl; clause = refl; handle = refl; offset = refl; live = refl; cursor = refl; once = refl }
 are_read table offset (Some cs) (Some w) (Some h) (Some l) (Some k) = record { table = refl; columns = refl; clause = refl; handle = refl; offset = refl; live = refl; cursor = refl; once = refl }
 
-abbrev IsRead : Query → Held → List Pair → Type 0
+abbrev pub IsRead : Query → Held → List Pair → Type 0
 IsRead q c pairs = AreRead q.table (offset_text c.offset) q.columns q.clause (option_map handle_text c.handle) c.cursor pairs
 
 -- ---- the place
@@ -163,6 +164,7 @@ asked_by tables q c pairs ask good read is =
       offset = offset_same ask.offset c.offset is.offset.0 good.offset (some_same (offset_text ask.offset) (offset_text c.offset) (sym is.offset.1 ∙ read.offset));
       live = is.live ∙ read_live q c pairs read;
       cursor = read_cursor c.cursor ask.cursor good.cursor (subst (λ v. CursorIs v ask.cursor) read.cursor is.cursor);
+      told = is.told ∙ ap (λ n. identity (record { ns = (table_name n).0; name = (table_name n).1; columns = ask.columns; clause = ask.clause })) (sym name);
     }
 
 asks_back : (tables : List Served) (q : Query) (c : Held) (pairs : List Pair) (r : Routed) → HasTarget q c → IsRead q c pairs → Asks tables pairs r → AsksBack tables q c r
@@ -215,11 +217,11 @@ no_bad form e texts (inl bad) = absurd cc
 no_bad form e texts (inr bad) = bad texts
 
 -- what stands behind the path
-record IsFormOf (q : Query) (c : Held) (form : List ℕ) : Type 0 where
-  escapes : has_bad_percent form ≡ false
-  parsed : parse form ≡ parameters_of q c
+pub record IsFormOf (q : Query) (c : Held) (form : List ℕ) : Type 0 where
+  pub escapes : has_bad_percent form ≡ false
+  pub parsed : parse form ≡ parameters_of q c
 
-the_form : (q : Query) (c : Held) → HasTarget q c → IsFormOf q c (form_of q c)
+pub the_form : (q : Query) (c : Held) → HasTarget q c → IsFormOf q c (form_of q c)
 the_form q c good = subst (IsFormOf q c) (sym (form_is q c)) (record { escapes = form_escapes (parameters_of q c); parsed = form_parsed (parameters_of q c) (are_texts q c good) })
 
 routed_back : (tables : List Served) (q : Query) (c : Held) (request : Request) (r : Routed) → HasTarget q c → request.get ≡ true → path_of request.target ≡ served_path → IsFormOf q c (query_of request.target) → IsRouted tables request r → TargetTried tables q c r

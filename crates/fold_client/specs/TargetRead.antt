@@ -9,6 +9,7 @@ use Rattle.shape_base.specs.declared.offset.Offset.TheVariants.{Start}
 use Rattle.shape_base.specs.declared.served.Served.{Served}
 use Rattle.shape_base.specs.Handle.{IsHandle}
 use Rattle.shape_base.specs.OffsetText.{IsOffset}
+use Rattle.shape_def.specs.Identity.{identity}
 use Rattle.http_edge.specs.declared.request.Request.{Request}
 use Rattle.http_edge.specs.declared.refusal.Refusal.TheVariants as refusals
 use Rattle.http_edge.specs.Route.{table_name, table_from, IsNotServed, IsCanonical, names_of, Routed, Refuses, ClauseTried, IsRouteAnswer}
@@ -30,7 +31,7 @@ abbrev pub named_by : Option Handle → Named
 named_by None = names.Absent
 named_by (Some h) = names.Known h
 
--- it asks for the query's table, clause and columns, under the present handle, from the offset on, and waits after an up-to-date reply, with its cursor
+-- it asks for the query's table, clause and columns, under the present handle, from the offset on, and waits after an up-to-date reply, with its cursor; its identity is that of the query
 pub record IsAskedBy (tables : List Served) (q : Query) (c : Held) (ask : Ask) : Type 0 where
   pub table : table_from (table_name q.table) 0 tables ≡ Some ask.table
   pub clause : IsCanonical q.clause ask.clause
@@ -39,6 +40,7 @@ pub record IsAskedBy (tables : List Served) (q : Query) (c : Held) (ask : Ask) :
   pub offset : ask.offset ≡ c.offset
   pub live : ask.live ≡ is_some c.cursor
   pub cursor : ask.cursor ≡ unwrap_or c.cursor 0
+  pub told : ask.identity ≡ identity (record { ns = (table_name q.table).0; name = (table_name q.table).1; columns = ask.columns; clause = ask.clause })
 
 abbrev pub AsksBack : List Served → Query → Held → Routed → Type 0
 AsksBack tables q c (Ok ask) = IsAskedBy tables q c ask
