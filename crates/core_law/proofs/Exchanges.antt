@@ -3,7 +3,7 @@ use Rattle.std.proofs.Common.{◌≡◌, ℕ, zero, suc, ◌+◌, ◌-◌, ◌^�
 use Rattle.std.specs.Bool.{if◌then◌else◌}
 use Rattle.std.specs.List.{slice_get, AllByRecursion}
 use Rattle.std.specs.Option.{option_map, option_or, option_and_then}
-use Rattle.std.specs.Prelude.{IsSomeAnd, nat_lt}
+use Rattle.std.specs.Prelude.{nat_lt}
 use Rattle.std.proofs.lemmas.Bool.{and_parts}
 use Rattle.std.proofs.lemmas.Bool.Decides.{Decides-ltb}
 use Rattle.shape_base.specs.declared.ask.Ask.{Ask}
@@ -16,7 +16,6 @@ use Rattle.shape_base.specs.declared.history.History.{History}
 use Rattle.shape_base.specs.declared.offset.Offset.{Offset}
 use Rattle.shape_base.specs.declared.offset.Offset.TheVariants.{Start, At}
 use Rattle.shape_base.specs.declared.reply.Reply.{Reply}
-use Rattle.shape_base.specs.declared.served.Served.{Served}
 use Rattle.shape_base.specs.Handle.{IsHandle, is_run}
 use Rattle.shape_base.specs.OffsetText.{IsOffset}
 use Rattle.shape_base.specs.Offsets.{end_from}
@@ -30,18 +29,18 @@ use Rattle.http_edge.specs.declared.error_code.ErrorCode.{ErrorCode}
 use Rattle.http_edge.specs.declared.error_code.ErrorCode.TheVariants as codes
 use Rattle.http_edge.specs.World.{World, Given, situation, IsGoodWorld}
 use Rattle.http_edge.specs.Lawful.{Asked, Refuses, AsksFor, next_cursor, reply_of, IsLawful}
-use Rattle.http_edge.specs.Route.{IsAskOf, OffsetIs, read, refused, absent}
 use Rattle.fold_client.specs.Client.{Says}
 use Rattle.fold_client.specs.Following.{Heard, AreFair, start}
 use Rattle.core_law.specs.Situation.{Options, Shape, Server, shape_at, Role, Reads, Waits, Owns, HasNone, Exchange, Customer, Situation, answers_from, world_of, known_of, held_of, identity_of}
 use Rattle.core_law.specs.Steps.{Written, refused_with, body_of, written_as, written_to, reply_now, heard_at, settled_one, refused_at}
-use Rattle.core_law.specs.Laws.{IsRead, IsFirst, IsTold, IsLawfulExchange}
+use Rattle.core_law.specs.Laws.{IsFirst, IsTold, IsLawfulExchange}
 use Rattle.core_law.proofs.Lists.{some_same}
 use Rattle.core_law.proofs.Server.{Sound, Extends}
 use Rattle.core_law.proofs.Worlds.{answer_is}
 use Rattle.core_law.proofs.Registrations.{still_registered}
 use Rattle.core_law.proofs.Replies.{HasWait, HasRole, lawful_now, says_now, page_read, refused_says}
 use Rattle.core_law.proofs.Fields.{HasFields, HasReplyFields}
+use Rattle.core_law.proofs.Targets.{ReadsBack}
 
 -- ---- the facts
 
@@ -55,7 +54,7 @@ pub record Fine (Q : Type 0) (o : Options) (v : Server) (w : World) (x : Exchang
   pub lawful : IsLawfulExchange w x
   pub says : IfSome x.given (SaysFor x.asked)
   pub role : HasRole v x.asked x.role
-  pub read : Q → IsRead o x.target x.asked
+  pub read : Q → ReadsBack x.target x.asked
   pub fields : Q → IfSome x.given (λ heard. HasReplyFields heard.given.reply)
 
 pub record FineCustomer (o : Options) (w : World) (c : Customer) : Type 0 where
@@ -174,19 +173,6 @@ fields_now o h step v z late asked (Waits n) x told sound on good fits e = unles
 fields_now o h step v z late asked (Owns n) x told sound on good fits e = unless_fields o h step v z late asked x (was_removed v.registry n) told sound on good fits e
 fields_now o h step v z late asked HasNone x told sound on good fits e = cc
 
--- what was read has an offset of 64 bits
-offset_read : (value : Option (List ℕ)) (offset : Option Offset) → OffsetIs value offset → IfSome offset IsOffset
-offset_read value offset (read x is e) = is
-offset_read value offset (refused h) = tt
-offset_read value offset absent = tt
-
-read_some : (tables : List Served) (ask : Ask) (target : Option (List ℕ)) → IsSomeAnd target (λ text. IsAskOf text tables ask) → IsOffset ask.offset
-read_some tables ask None h = absurd h
-read_some tables ask (Some text) h = offset_read _ _ h.offset
-
-asks_within : (o : Options) (target : Option (List ℕ)) (asked : Asked) → IsRead o target asked → AsksWithin asked
-asks_within o target asked reads ask e = read_some o.tables ask target (reads ask e)
-
 -- ---- a reply is given
 
 lawful_option : (o : Options) (h : History) (step : ℕ → ℕ) (v z : Server) (late : Bool) (x : Exchange) (reply : Option Written) → reply_now o v late x.asked x.role ≡ reply → HasRole v x.asked x.role → IsTold o h step z → Sound o v → Extends v z
@@ -212,7 +198,7 @@ settled_fine Q o h step v z late x None e told sound on good is = record {
   says = says_option o h step v z (late x) x (reply_now o v (late x) x.asked x.role) refl told sound on good;
   role = is.role;
   read = is.read;
-  fields = λ q. fields_option o h step v z (late x) x (reply_now o v (late x) x.asked x.role) refl told sound on good (asks_within o x.target x.asked (is.read q));
+  fields = λ q. fields_option o h step v z (late x) x (reply_now o v (late x) x.asked x.role) refl told sound on good (is.read q).within;
 }
 
 -- ---- a refusal is given at once

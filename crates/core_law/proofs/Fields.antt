@@ -2,23 +2,15 @@
 use Rattle.std.proofs.Common.{◌≡◌, ℕ, ◌^◌, ◌<◌, Bool, true, false, List, [], ◌∷◌, refl, subst, Option, None, Some, IfSome}
 use Rattle.std.specs.Bool.{if◌then◌else◌}
 use Rattle.std.specs.Prelude.{◌==◌}
-use Rattle.shape_base.specs.declared.ask.Ask.{Ask}
 use Rattle.shape_base.specs.declared.handle.Handle.{Handle}
 use Rattle.shape_base.specs.declared.offset.Offset.{Offset}
 use Rattle.shape_base.specs.declared.reply.Reply.{Reply}
-use Rattle.shape_base.specs.declared.served.Served.{Served}
 use Rattle.shape_base.specs.Handle.{IsHandle}
 use Rattle.shape_base.specs.OffsetText.{IsOffset}
 use Rattle.shape_base.specs.Shape.{Map}
 use Rattle.shape_base.specs.Log.{fold_from}
-use Rattle.http_edge.specs.Route.{IsAskOf}
 use Rattle.fold_client.specs.declared.body.Body.{Body}
-use Rattle.fold_client.specs.declared.client.Query.{Query}
 use Rattle.fold_client.specs.Client.{Held, nothing_held, is_above, next_handle, left_by, begun_anew, comes_back, is_bad, is_current, same_handle, fault_at, with_rows, with_handle, with_parts, take_reply}
-use Rattle.fold_client.specs.Following.{named_by}
-use Rattle.fold_client.specs.Target.{target_text}
-use Rattle.std.specs.Option.{unwrap_or}
-use Rattle.std.specs.Prelude.{is_some}
 
 -- what a client holds has texts that are read back
 pub record HasFields (c : Held) : Type 0 where
@@ -32,21 +24,6 @@ pub record HasReplyFields (r : Reply) : Type 0 where
   pub handle : IfSome r.handle IsHandle
   pub offset : IfSome r.offset IsOffset
   pub cursor : IfSome r.cursor (λ n. n < 2 ^ 64)
-
--- ---- what a target is read back to
-
-abbrev pub placed_ask : Held → Ask → Ask
-placed_ask c ask = record ask { named = named_by c.handle; offset = c.offset; live = is_some c.cursor; cursor = unwrap_or c.cursor 0 }
-
-pub record IsPlaced (tables : List Served) (q : Query) (c : Held) (ask : Ask) : Type 0 where
-  pub first : Ask
-  pub reads : IsAskOf (target_text q nothing_held) tables first
-  pub is : ask ≡ placed_ask c first
-
--- A client's target asks for what its first one does, from where the client stands.
-pub record Follows (tables : List Served) : Type 0 where
-  pub forth : (q : Query) (c : Held) (first : Ask) → HasFields c → IsAskOf (target_text q nothing_held) tables first → IsAskOf (target_text q c) tables (placed_ask c first)
-  pub back : (q : Query) (c : Held) (ask : Ask) → HasFields c → IsAskOf (target_text q c) tables ask → IsPlaced tables q c ask
 
 -- ---- a reply is taken
 

@@ -6,6 +6,7 @@ pub mod Worlds
 pub mod Replies
 pub mod Fields
 pub mod Registrations
+pub mod Targets
 pub mod Exchanges
 pub mod Turns
 pub mod Blocks

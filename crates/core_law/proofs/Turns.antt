@@ -37,11 +37,12 @@ use Rattle.core_law.specs.Situation.{Options, Shape, Server, shape_at, Role, Rea
 use Rattle.core_law.specs.Steps.{change_at, heard_at, refused_with, settled_one, settled, dropped, redefined, with_shape_event, with_shape, after_commit, with_exchange, refused_at, with_role, registered_for, opened, asked_first, asked_named, asked_for, exchange_at, request, Fault, LinkFailed, IsBad, TooLarge, code_of, owned_in, owned_by, id_before, stale_by, untrue_by, or_else, refusal_of_snapshot, changed_in, snapshot_ends, started, snapped}
 use Rattle.core_law.specs.Clients.{Out, Gives, Cut, Block, Refetched, Refused, Turn, Goes, Stops, is_unfit, new_reply, given_now, finished, never}
 use Rattle.core_law.specs.Run.{next_of, outs_of}
-use Rattle.core_law.specs.Laws.{IsRead, IsTold, IsRightOut}
+use Rattle.core_law.specs.Laws.{IsTold, IsRightOut}
 use Rattle.core_law.proofs.Server.{Sound, Extends, Better, better_same, better_trans, extends_trans, redefines_some, drops}
 use Rattle.core_law.proofs.ServerSteps.{HasRoom, registers, commit_better, starts, live_from_starting}
 use Rattle.core_law.proofs.Registrations.{live_registered, registered_now, removed_now, cause_now}
 use Rattle.core_law.proofs.Replies.{HasWait, HasRole, unregistered, unready, snapshot_lawful}
+use Rattle.core_law.proofs.Targets.{ReadsBack, reads_nothing}
 use Rattle.core_law.proofs.Exchanges.{Fine, FineCustomer, Good, role_on, fine_on, settled_fine, refused_fine}
 
 -- ---- lists
@@ -165,7 +166,7 @@ moved_exchange R o s v x better fine = record {
 
 module _ (o : Options) (s : Situation) (outside : Bool) (target : Option (List ℕ)) (close : Bool) where
   abbrev Routed : Asked → Type 0
-  Routed asked = IsRead o target asked
+  Routed asked = ReadsBack target asked
 
   abbrev new : Asked → Exchange
   new asked = exchange_at outside target asked close s.clock
@@ -239,12 +240,12 @@ module _ (o : Options) (s : Situation) (outside : Bool) (target : Option (List �
   named_moved ask (Known handle) e = plain_moved (AsksFor ask) Reads tt
   named_moved ask Strange e = plain_moved (AsksFor ask) Reads tt
 
-  pub request_moved : (asked : Asked) → Moved (IsRead o target asked) o s (request o s outside target asked close)
+  pub request_moved : (asked : Asked) → Moved (ReadsBack target asked) o s (request o s outside target asked close)
   request_moved (Refuses code) = plain_moved (Refuses code) Reads tt
   request_moved (AsksFor ask) = named_moved ask ask.named refl
 
   pub cut_fine : (Q : Type 0) (v : Server) (w : World) (code : ErrorCode) → Fine Q o v w (with_role HasNone (exchange_at outside None (Refuses code) close s.clock))
-  cut_fine Q v w code = record { lawful = tt; says = tt; role = tt; read = λ q ask e. cc; fields = λ q. tt }
+  cut_fine Q v w code = record { lawful = tt; says = tt; role = tt; read = λ q. reads_nothing None (Refuses code) (λ ask e. cc); fields = λ q. tt }
 
 -- ---- snapshots
 

@@ -1,5 +1,5 @@
 -- What the replies and the blocks of a run owe a history.
-use Rattle.std.specs.Prelude.{◌≡◌, ℕ, ◌≤◌, Bool, true, false, List, [], ◌∷◌, ◌++◌, length, take, map, Option, None, Some, IfSome, IsSomeAnd, slice_get}
+use Rattle.std.specs.Prelude.{◌≡◌, ℕ, ◌≤◌, Bool, true, false, List, [], ◌∷◌, ◌++◌, length, take, map, Option, None, Some, IfSome, IsSomeAnd, slice_get, Ok}
 use Rattle.std.specs.List.{AllByRecursion}
 use Rattle.std.specs.Option.{option_map}
 use Rattle.std.specs.FinMap as fin
@@ -21,11 +21,13 @@ use Rattle.shape_registry.specs.Registry.{ArePlaced}
 use Rattle.http_edge.specs.World.{World}
 use Rattle.http_edge.specs.Lawful.{Asked, AsksFor, IsLawful}
 use Rattle.http_edge.specs.Fair.{IsFair}
-use Rattle.http_edge.specs.Route.{IsAskOf}
+use Rattle.http_edge.specs.declared.request.Request.{Request}
+use Rattle.http_edge.specs.Route.{IsRouted}
 use Rattle.fold_client.specs.declared.client.Query.{Query}
 use Rattle.fold_client.specs.Client.{nothing_held, Says}
 use Rattle.fold_client.specs.Following.{Heard, start, followed, IsCurrent}
 use Rattle.fold_client.specs.Target.{target_text}
+use Rattle.fold_client.specs.TargetRead.{HasTarget}
 use Rattle.core_law.specs.Situation.{Options, Shape, Server, shape_at, Exchange, Customer, Situation, at_start, world_of, reader_under, held_of, identity_of}
 use Rattle.core_law.specs.Steps.{reply_now}
 use Rattle.core_law.specs.Clients.{Out, Gives, Cut, Block, Refetched, Refused}
@@ -38,14 +40,18 @@ pub record IsStart (o : Options) : Type 0 where
   pub run : is_run o.run ≡ true
   pub placed : ArePlaced o.catalog
 
--- What a target asks for is what reading it gives.
-abbrev pub IsRead : Options → Option (List ℕ) → Asked → Type 0
-IsRead o target asked = (ask : Ask) → asked ≡ AsksFor ask → IsSomeAnd target (λ text. IsAskOf text o.tables ask)
+-- a GET of that target
+abbrev pub get_of : List ℕ → Request
+get_of target = record { length = 0; get = true; target = target; close = false }
 
--- What a client's first target asks for is all that reading it gives: nothing where it is refused.
+-- What a target asks for is what a GET of it is answered.
+abbrev pub IsRead : Options → Option (List ℕ) → Asked → Type 0
+IsRead o target asked = (ask : Ask) → asked ≡ AsksFor ask → IsSomeAnd target (λ text. IsRouted o.tables (get_of text) (Ok ask))
+
+-- A client's query has texts, and what its first target asks for is what a GET of it is answered.
 pub record IsFirst (o : Options) (query : Query) (asked : Asked) : Type 0 where
-  pub asks : (ask : Ask) → asked ≡ AsksFor ask → IsAskOf (target_text query nothing_held) o.tables ask
-  pub reads : (ask : Ask) → IsAskOf (target_text query nothing_held) o.tables ask → asked ≡ AsksFor ask
+  pub texts : HasTarget query nothing_held
+  pub read : IsRead o (Some (target_text query nothing_held)) asked
 
 -- What an event's target asks for, and what a client's first one does, is what reading it gives.
 abbrev pub IsRoutedEvent : Options → Event → Type 0

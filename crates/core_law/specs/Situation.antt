@@ -1,5 +1,5 @@
 -- The situation of a server and of those who ask it: only what cannot be worked out of the rest.
-use Rattle.std.specs.Prelude.{ℕ, zero, suc, Bool, List, [], ◌∷◌, ◌++◌, Option, None, Some, is_some, unwrap_or, slice_get}
+use Rattle.std.specs.Prelude.{ℕ, zero, suc, Bool, List, [], ◌∷◌, ◌++◌, Option, None, Some, is_some, unwrap_or, slice_get, Result, Ok, Err}
 use Rattle.std.specs.Option.{option_map, option_and_then}
 use Rattle.shape_base.specs.declared.entry.Entry.{Entry}
 use Rattle.shape_base.specs.declared.change.Tx.{Tx}
@@ -13,10 +13,15 @@ use Rattle.shape_base.specs.Snapshot.{Snapshot}
 use Rattle.shape_base.specs.RegistryHistory.{RegistryStart, definition_after}
 use Rattle.shape_json.specs.ShapeHistory.{Reader, ShapeEvent, snapshot_in, log_after}
 use Rattle.shape_json.specs.Answer as answers
-use Rattle.shape_def.specs.Clauses.{unread_under}
+use Rattle.where_grammar.specs.Tree.{Tree}
+use Rattle.where_grammar.specs.Clause.{canonical_text}
+use Rattle.where_parser.specs.declared.parsing.ParseError.{ParseError}
+use Rattle.shape_def.specs.Clauses.{answer_in, unread_under}
+use Rattle.shape_def.specs.Identity.{identity}
 use Rattle.shape_def.specs.Definition.{knows_for}
 use Rattle.http_edge.specs.World.{Kept, World}
 use Rattle.http_edge.specs.Lawful.{Asked, Refuses, AsksFor}
+use Rattle.http_edge.specs.Route.{table_name, names_of}
 use Rattle.fold_client.specs.declared.client.Query.{Query}
 use Rattle.fold_client.specs.Client.{Held}
 use Rattle.fold_client.specs.Following.{Heard, named_by, start, followed}
@@ -139,10 +144,18 @@ placed c (AsksFor ask) = AsksFor (record ask { named = named_by c.handle; offset
 abbrev pub next_asked : Customer → Asked
 next_asked c = placed (held_of c) c.asked
 
--- the identity that its requests have; none where they are all refused
-abbrev pub identity_in : Asked → List ℕ
-identity_in (Refuses code) = []
-identity_in (AsksFor ask) = ask.identity
+-- the canonical text of a clause, where it has one
+abbrev pub canonical_in : Result Tree ParseError → Option (List ℕ)
+canonical_in (Ok tree) = Some (canonical_text tree)
+canonical_in (Err error) = None
+
+abbrev pub canonical_of : Option (List ℕ) → Option (List ℕ)
+canonical_of None = None
+canonical_of (Some text) = canonical_in (answer_in text)
+
+-- the identity of what a query asks for
+abbrev pub query_identity : Query → List ℕ
+query_identity q = identity (record { ns = (table_name q.table).0; name = (table_name q.table).1; columns = names_of q.columns; clause = canonical_of q.clause })
 
 abbrev pub identity_of : Customer → List ℕ
-identity_of c = identity_in c.asked
+identity_of c = query_identity c.query

@@ -2,5 +2,5 @@ pub mod Folding
 pub mod Following
 pub mod Steps
 pub mod Taking
-mod TargetForms
-mod TargetLaw
+pub mod TargetForms
+pub mod TargetLaw
