@@ -8,5 +8,7 @@ pub mod Fields
 pub mod Registrations
 pub mod Targets
 pub mod Exchanges
+pub mod Shapes
 pub mod Turns
 pub mod Blocks
+pub mod Whole

@@ -3,9 +3,24 @@
 //! There is no machine here: a situation, what one event does to it, and laws over whole lists of events.
 #![tactic(auto)]
 
-ghost use Rattle.core_law.specs.Laws.{AnsweredAtOnce};
+ghost use Rattle.core_law.specs.Laws.{RepliesAreLawful, RepliesAreFair, AnsweredAtOnce, Headline};
+
+/// Each reply given is lawful.
+pub fn replies_are_lawful()
+    ensures { RepliesAreLawful }
+{}
+
+/// Each reply given is fair, and its body says what was written.
+pub fn replies_are_fair()
+    ensures { RepliesAreFair }
+{}
 
 /// After each event all exchanges that can be answered are answered.
 pub fn answered_at_once()
     ensures { AnsweredAtOnce }
+{}
+
+/// Each block has the rows of the table after the client's reach that the shape of its identity selects.
+pub fn headline()
+    ensures { Headline }
 {}
