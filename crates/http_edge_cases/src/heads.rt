@@ -18,7 +18,7 @@ fn put_repeated(alloc: Global, bytes: &mut Vec<u8>, text: &str) -> Result<(), Ou
 }
 
 /// The bytes of a line, in which every other piece between tildes is repeated.
-fn long_bytes_of(alloc: Global, text: &str) -> Result<Vec<u8>, OutOfMemory> {
+pub(crate) fn long_bytes_of(alloc: Global, text: &str) -> Result<Vec<u8>, OutOfMemory> {
     let mut bytes = Vec::new(alloc);
     let mut repeated = false;
     for piece in text.split('~') {

@@ -7,15 +7,18 @@
 //! | `again BYTES` | the reply that the bytes begin with, written again: its length, and its text |
 //! | `head BYTES` | the head that the bytes begin with: its length, whether its method is GET, what becomes of the connection, and its target; or why they are refused |
 //! | `fronts BYTES` | how many fronts of the bytes, themselves among them, are answered in each way when they are read as a head |
+//! | `get TARGET` | what a request with this target asks for, of five served tables: the table's place, its handle, its offset, whether it waits, its cursor, its columns and its identity; or why it asks for nothing |
+//! | `post TARGET` | the same of a request whose method is another |
 //! | `refuse WORD ..` | the reply that refuses with this word and numbers: its length, and its text |
 //! | `close WORD ..` | the same, behind which the connection is closed |
 //!
-//! A backslash and two hexadecimal digits stand for one byte. In the bytes of heads `~N*BYTES~` stands for N times these bytes.
+//! A backslash and two hexadecimal digits stand for one byte. In heads and targets `~N*BYTES~` stands for N times these bytes.
 #![tactic(auto)]
 
 mod codes;
 mod heads;
 mod printing;
+mod targets;
 
 use cases::{Answers, answer_lines, bytes_of, cut};
 use codes::code_of;
@@ -25,6 +28,7 @@ use printing::{reply_line, written_line};
 use shape_base::OutOfMemory;
 use std::alloc::Global;
 use std::io;
+use targets::target_line;
 
 /// What bytes are read to.
 fn read_line(alloc: Global, text: &str) -> Result<String, OutOfMemory> {
@@ -84,6 +88,8 @@ impl Answers for EdgeCases {
             "again" => again_line(alloc, rest)?,
             "head" => head_line(alloc, rest)?,
             "fronts" => fronts_line(alloc, rest)?,
+            "get" => target_line(alloc, rest, true)?,
+            "post" => target_line(alloc, rest, false)?,
             "refuse" => refusal_line(alloc, rest, false)?,
             "close" => refusal_line(alloc, rest, true)?,
             _ => format!(in alloc; "no such line")?,
