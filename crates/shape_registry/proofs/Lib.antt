@@ -8,3 +8,4 @@ pub mod Laws
 pub mod States
 pub mod KeptValues
 pub mod Catalog
+pub mod Parts

@@ -11,6 +11,7 @@ ghost use Rattle.shape_registry.specs.declared.found.Found.TheVariants as found;
 ghost use Rattle.shape_registry.specs.declared.standing.Standing.TheVariants as standings;
 
 use super::found::Found;
+use super::names::Names;
 use super::refusal::Refusal;
 use super::standing::Standing;
 use shape_base::{Duplicate, Handle, Named, Numbers, OutOfMemory, TableDef, TableDefs, Text};
@@ -48,7 +49,7 @@ pub struct Handles {
     run: Text,
     limit: u64,
     definitions: TableDefs,
-    numbers: BTreeMap<Text, u64>,
+    names: Names,
     entries: BTreeMap<u64, LiveEntry>,
     given: u64,
     taken: u64,
@@ -60,12 +61,13 @@ impl Model for Handles {
     ghost use Rattle.std.specs.Option.{option_map};
     ghost use Rattle.shape_base.specs.RegistryHistory.{RegistryState};
     ghost use Rattle.shape_registry.specs.Entries.{handle_in, taken_in, AreLinked};
+    ghost use Rattle.shape_registry.specs.Names.{number_under};
 
     ghost Value = { RegistryState };
 
     ghost view = { λ a. record { run = a.run; limit = a.limit; catalog = a.definitions; live = map handle_in a.entries.entries; given = a.given; taken = a.taken; last = option_map taken_in a.newest } };
 
-    ghost invariant = { λ a. AreLinked a.numbers.entries a.entries.entries a.given × (a.taken ≤ unwrap_or (option_map (λ t. t.lsn) a.newest) 0) };
+    ghost invariant = { λ a. AreLinked (number_under a.names) a.entries.entries a.given × (a.taken ≤ unwrap_or (option_map (λ t. t.lsn) a.newest) 0) };
 }
 
 /// The numbers of the entries.
@@ -100,19 +102,25 @@ fn ready_number(live: Live) -> Option<u64>
 
 impl Handles {
     /// No handles.
-    pub fn new(alloc: Global, run: Text, limit: u64, definitions: TableDefs) -> Handles
-        ensures { result ≡ record { run = run; limit = limit; catalog = definitions; live = []; given = 0; taken = 0; last = None } }
+    pub fn new(
+        alloc: Global,
+        run: Text,
+        limit: u64,
+        definitions: TableDefs,
+    ) -> Result<Handles, OutOfMemory>
+        ensures { IfOk result (λ handles. handles ≡ record { run = run; limit = limit; catalog = definitions; live = []; given = 0; taken = 0; last = None }) }
     {
-        Handles {
+        let names = Names::new(alloc)?;
+        Ok(Handles {
             run,
             limit,
             definitions,
-            numbers: BTreeMap::new(alloc),
+            names,
             entries: BTreeMap::new(alloc),
             given: 0,
             taken: 0,
             newest: None,
-        }
+        })
     }
 
     /// The id of the last transaction taken.
@@ -193,10 +201,10 @@ impl Handles {
     fn under(&self, identity: &Text) -> Option<Live>
         ensures { result ≡ option_map (λ l. record { number = l.number; is_ready = l.ready }) (live_as self.now identity.now) }
     {
-        match self.numbers.get(identity) {
-            Some(number) => match self.entries.get(number) {
+        match self.names.get(identity) {
+            Some(number) => match self.entries.get(&number) {
                 Some(entry) => Some(Live {
-                    number: *number,
+                    number,
                     is_ready: entry.is_ready,
                 }),
                 None => None,
@@ -325,8 +333,8 @@ impl Handles {
             is_ready: false,
         };
         let _none = self.entries.insert(number, entry)?;
-        match self.numbers.insert(twin, number) {
-            Ok(_none) => {
+        match self.names.insert(twin, number) {
+            Ok(()) => {
                 self.given = number;
                 Ok(number)
             }
@@ -355,6 +363,6 @@ impl Handles {
         let Some(entry) = self.entries.remove(&number) else {
             return;
         };
-        let _number = self.numbers.remove(&entry.identity);
+        self.names.remove(&entry.identity);
     }
 }
