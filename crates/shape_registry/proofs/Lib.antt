@@ -9,3 +9,4 @@ pub mod States
 pub mod KeptValues
 pub mod Catalog
 pub mod Parts
+pub mod Naming

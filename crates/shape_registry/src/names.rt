@@ -1,6 +1,7 @@
-//! Which number is live under an identity.
+//! Which handle is live under an identity.
 ghost use Rattle.std.specs.Prelude.{◌≡◌, ◌<◌, List, ℕ, None, Some, IfOk, OnOk, OnErr};
-ghost use Rattle.shape_registry.specs.Names.{part_of, number_under, Renames};
+ghost use Rattle.std.specs.Option.{option_map};
+ghost use Rattle.shape_registry.specs.Names.{part_of, name_under, now_ready, Renames};
 
 use shape_base::{OutOfMemory, Text};
 use std::alloc::Global;
@@ -8,15 +9,22 @@ use std::collections::BTreeMap;
 use std::hash::{FoldHasher, Hasher};
 use std::marker::Model;
 
+/// A live handle.
+#[derive(Clone, Copy)]
+pub struct Live {
+    pub number: u64,
+    pub is_ready: bool,
+}
+
 /// How many maps there are.
 const PARTS: usize = 1024;
 
-/// The numbers of identities, in many small maps. An identity's hash picks its map, in which identities are compared whole.
+/// The live handles of identities, in many small maps. An identity's hash picks its map, in which identities are compared whole.
 ///
-/// Contracts see the maps, by `number_under`.
+/// Contracts see the maps, by `name_under`.
 #[derive(Drop)]
 pub struct Names {
-    parts: Vec<BTreeMap<Text, u64>>,
+    parts: Vec<BTreeMap<Text, Live>>,
 }
 
 impl Model for Names {
@@ -41,9 +49,9 @@ fn part_of(identity: &Text) -> usize
 }
 
 impl Names {
-    /// No identity has a number.
+    /// No identity has a handle.
     pub fn new(alloc: Global) -> Result<Names, OutOfMemory>
-        ensures { IfOk result (λ names. (identity : List ℕ) → number_under names identity ≡ None) }
+        ensures { IfOk result (λ names. (identity : List ℕ) → name_under names identity ≡ None) }
     {
         let mut parts = Vec::with_capacity(alloc, PARTS)?;
         for _ in 0..PARTS {
@@ -52,27 +60,37 @@ impl Names {
         Ok(Names { parts })
     }
 
-    /// The number of an identity.
-    pub fn get(&self, identity: &Text) -> Option<u64>
-        ensures { result ≡ number_under self.now identity.now }
+    /// The handle of an identity.
+    pub fn get(&self, identity: &Text) -> Option<Live>
+        ensures { result ≡ name_under self.now identity.now }
     {
         self.parts[part_of(identity)].get(identity).copied()
     }
 
-    /// The identity has this number from now on.
-    pub fn insert(&mut self, identity: Text, number: u64) -> Result<(), OutOfMemory>
-        ensures ok { OnOk result (Renames self.old self.new identity (Some number)) }
+    /// The identity has this handle from now on.
+    pub fn insert(&mut self, identity: Text, live: Live) -> Result<(), OutOfMemory>
+        ensures ok { OnOk result (Renames self.old self.new identity (Some live)) }
         ensures err { OnErr result (self.new ≡ self.old) }
     {
         let part = part_of(&identity);
-        self.parts[part].insert(identity, number)?;
+        self.parts[part].insert(identity, live)?;
         Ok(())
     }
 
-    /// The identity has no number from now on.
+    /// The handle of the identity is ready from now on.
+    pub fn make_ready(&mut self, identity: &Text)
+        ensures { Renames self.old self.new identity.now (option_map now_ready (name_under self.old identity.now)) }
+    {
+        let Some(live) = self.parts[part_of(identity)].get_mut(identity) else {
+            return;
+        };
+        live.is_ready = true;
+    }
+
+    /// The identity has no handle from now on.
     pub fn remove(&mut self, identity: &Text)
         ensures { Renames self.old self.new identity.now None }
     {
-        let _number = self.parts[part_of(identity)].remove(identity);
+        let _live = self.parts[part_of(identity)].remove(identity);
     }
 }

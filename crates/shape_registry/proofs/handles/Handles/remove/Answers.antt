@@ -2,16 +2,16 @@ use Rattle.std.proofs.Common.{◌≡◌, ◌∙◌, ap, sym, subst, map, not, �
 use Rattle.std.specs.Prelude.{filter}
 use Rattle.shape_registry.specs.contracts.handles.Handles.{the_view}
 use Rattle.shape_registry.specs.Entries.{handle_in, AreLinked}
-use Rattle.shape_registry.specs.Names.{number_under}
+use Rattle.shape_registry.specs.Names.{name_under}
 use Rattle.shape_registry.proofs.Changes.{with_live, removed_is, removed_linked}
 use Rattle.shape_registry.proofs.handles.Handles.remove.Goals as goal
 
 pub invariant_of-self : goal.invariant_of-self
-invariant_of-self c = (subst (λ es. AreLinked (number_under c.self.inside.names) es c.self.inside.given) (sym c.in_default.ensures.unchanged) c.self.invariant.0, c.self.invariant.1)
+invariant_of-self c = (subst (λ es. AreLinked (name_under c.self.inside.names) es c.self.inside.given) (sym c.in_default.ensures.unchanged) c.self.invariant.0, c.self.invariant.1)
 
 pub invariant_of-self-2 : goal.invariant_of-self-2
 invariant_of-self-2 c = (
-  removed_linked (number_under c.self.inside.names) (number_under c.remove-2.new.self) c.self.inside.entries.entries c.remove.new.self.entries c.self.inside.given c.args.number c.in-Some.entry
+  removed_linked (name_under c.self.inside.names) (name_under c.remove-2.new.self) c.self.inside.entries.entries c.remove.new.self.entries c.self.inside.given c.args.number c.in-Some.entry
       c.self.invariant.0 (sym c.in-Some.ensures.value) c.remove-2.ensures c.in-Some.ensures.updates.0 c.in-Some.ensures.ordered c.in-Some.ensures.entries,
   c.self.invariant.1,
 )
