@@ -1,5 +1,5 @@
 -- A catalogue keeps each definition in its table's place.
-use Rattle.std.proofs.Common.{◌≡◌, ℕ, zero, suc, List, [], ◌∷◌, Option, None, Some, refl, sym, ap, subst, ◌⊎◌, inl, inr}
+use Rattle.std.proofs.Common.{◌≡◌, ℕ, zero, suc, List, [], ◌∷◌, Some, refl, sym, ap, subst, ◌⊎◌, inl, inr}
 use Rattle.std.specs.Prelude.{IfSome, slice_get, slice_set}
 use Rattle.shape_base.specs.declared.definition.TableDef.{TableDef}
 use Rattle.shape_base.specs.declared.registry_event.RegistryEvent.{RegistryEvent}
@@ -7,7 +7,7 @@ use Rattle.shape_base.specs.RegistryHistory.{redefinitions, redefined, catalog_a
 use Rattle.shape_registry.specs.Registry.{ArePlaced}
 
 -- what stands in a place after a write: what stood there, or the new item
-after_set : {A : Type 0} (xs : List A) (i j : ℕ) (x : A) → (slice_get (slice_set xs i x) j ≡ slice_get xs j) ⊎ ((i ≡ j) × (slice_get (slice_set xs i x) j ≡ Some x))
+pub after_set : {A : Type 0} (xs : List A) (i j : ℕ) (x : A) → (slice_get (slice_set xs i x) j ≡ slice_get xs j) ⊎ ((i ≡ j) × (slice_get (slice_set xs i x) j ≡ Some x))
 after_set [] i j x = inl refl
 after_set (y ∷ ys) zero zero x = inr (refl, refl)
 after_set (y ∷ ys) zero (suc j) x = inl refl

@@ -1,21 +1,18 @@
 -- What a registry keeps after one event more, and what it keeps by its history.
-use Rattle.std.proofs.Common.{◌≡◌, ℕ, ◌+◌, ◌≤◌, ◌<◌, Bool, true, false, not, cond, ◌&&◌, ◌||◌, ◌==◌, List, [], ◌∷◌, ◌++◌, map, Option, None, Some, refl, sym, ◌∙◌, ap, subst, arith, length-append}
-use Rattle.std.specs.Prelude.{filter, filter_map, find, length, fold, slice_set}
+use Rattle.std.proofs.Common.{◌≡◌, ℕ, Bool, true, false, not, ◌||◌, ◌==◌, List, [], ◌∷◌, ◌++◌, map, Option, None, Some, refl, sym, ◌∙◌, ap, length-append}
+use Rattle.std.specs.Prelude.{filter, length, slice_set}
 use Rattle.std.specs.List.{AllByRecursion, list_any, last_or}
-use Rattle.std.specs.Option.{option_map}
-use Rattle.std.proofs.lemmas.List.{append-nil, map-append}
+use Rattle.std.proofs.lemmas.List.{map-append}
 use Rattle.std.proofs.lemmas.List.Sums.{fold-append}
 use Rattle.std.proofs.lemmas.Bool.Decides.{Decides-eqb}
-use Rattle.shape_base.specs.Tables.{same_text}
-use Rattle.shape_base.specs.declared.cause.Cause.{Cause}
 use Rattle.shape_base.specs.declared.definition.TableDef.{TableDef}
 use Rattle.shape_base.specs.declared.registry_event.RegistryEvent.{RegistryEvent}
 use Rattle.shape_base.specs.declared.registry_event.RegistryEvent.TheVariants.{Registered, Ready, Removed, Took, Redefined}
-use Rattle.shape_base.specs.RegistryHistory.{RegistryStart, Registration, Removal, Taken, registrations, registration_in, removals, removal_in, made_ready, ready_in, transactions, transaction_in, redefinitions, definition_in, was_registered, was_removed, had_ready, events_before, taken_before, live_registrations, last_taken, redefined, catalog_after, MayRegister, MayFollow, IsLegal, LiveHandle, RegistryState, live_handle, state_after, Stands}
+use Rattle.shape_base.specs.RegistryHistory.{RegistryStart, Registration, Taken, registrations, registration_in, made_ready, ready_in, transactions, transaction_in, redefinitions, definition_in, was_registered, was_removed, had_ready, taken_before, live_registrations, last_taken, redefined, catalog_after, MayFollow, IsLegal, LiveHandle, RegistryState, live_handle, state_after, Stands}
 use Rattle.shape_base.proofs.Lemmas.{legal_next}
 use Rattle.shape_registry.specs.State.{after, with_ready}
 use Rattle.shape_registry.proofs.Growing.{each_of_filter, map_each, each_from, filter_of_map, each_among, part_stays, part_grows, any_more, before_stays, before_new}
-use Rattle.shape_registry.proofs.Legal.{Facts, facts_of, live_stays, removed_stays, ready_stays, live_without, new_number, live_grows, grows}
+use Rattle.shape_registry.proofs.Legal.{facts_of, live_stays, ready_stays, live_without, new_number, live_grows, grows}
 
 last_of : (o : Option Taken) (xs : List Taken) (x : Taken) → last_or o (xs ++ x ∷ []) ≡ Some x
 last_of o [] x = refl

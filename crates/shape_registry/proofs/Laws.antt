@@ -1,5 +1,5 @@
 -- What a registry that stands for a history answers and keeps, by that history. Other crates cite these.
-use Rattle.std.proofs.Common.{◌≡◌, ℕ, ◌+◌, ◌<◌, Bool, true, List, [], ◌∷◌, ◌++◌, map, Option, None, Some, refl, sym, ◌∙◌, ap, subst}
+use Rattle.std.proofs.Common.{◌≡◌, ℕ, ◌+◌, ◌<◌, true, List, [], ◌∷◌, ◌++◌, map, None, sym, ◌∙◌, ap, subst}
 use Rattle.std.specs.Prelude.{is_some, length}
 use Rattle.std.specs.Option.{option_map}
 use Rattle.shape_base.specs.declared.ask.Named.{Named}
@@ -7,7 +7,7 @@ use Rattle.shape_base.specs.declared.cause.Cause.{Cause}
 use Rattle.shape_base.specs.declared.definition.TableDef.{TableDef}
 use Rattle.shape_base.specs.declared.registry_event.RegistryEvent.{RegistryEvent}
 use Rattle.shape_base.specs.declared.registry_event.RegistryEvent.TheVariants.{Registered, Ready, Removed, Took, Redefined}
-use Rattle.shape_base.specs.RegistryHistory.{RegistryStart, RegistryState, registrations, transactions, is_live, is_starting, live_numbers, last_id, last_lsn, catalog_after, state_after, MayFollow, Stands}
+use Rattle.shape_base.specs.RegistryHistory.{RegistryStart, RegistryState, registrations, transactions, is_live, live_numbers, last_id, catalog_after, MayFollow, Stands}
 use Rattle.shape_registry.specs.declared.standing.Standing.TheVariants as standings
 use Rattle.shape_registry.specs.State.{live_at, standing_in, id_in, lsn_in, found_in, refusal_in, after}
 use Rattle.shape_registry.specs.ByHistory.{standing_after, before_after, found_after, refusal_after}

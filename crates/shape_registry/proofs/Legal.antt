@@ -1,6 +1,6 @@
 -- What holds of each legal history.
-use Rattle.std.proofs.Common.{◌≡◌, ℕ, ◌+◌, ◌≤◌, ◌<◌, Bool, true, false, not, cond, ◌&&◌, ◌||◌, ◌==◌, List, [], ◌∷◌, ◌++◌, map, Option, None, Some, refl, sym, ◌∙◌, ap, subst, arith, append_assoc, length-append}
-use Rattle.std.specs.Prelude.{filter, filter_map, find, length}
+use Rattle.std.proofs.Common.{◌≡◌, ℕ, ◌+◌, ◌≤◌, ◌<◌, Bool, true, false, not, cond, ◌&&◌, ◌||◌, ◌==◌, List, [], ◌∷◌, ◌++◌, None, Some, refl, sym, ◌∙◌, ap, subst, arith, append_assoc, length-append}
+use Rattle.std.specs.Prelude.{filter, find, length}
 use Rattle.std.specs.List.{AllByRecursion, list_any}
 use Rattle.std.specs.Option.{option_map}
 use Rattle.std.proofs.lemmas.List.{append-nil}
@@ -8,10 +8,9 @@ use Rattle.std.proofs.lemmas.List.Elements.{filter-append}
 use Rattle.std.proofs.lemmas.Bool.Decides.{Decides-eqb, nat_tests}
 use Rattle.shape_base.specs.Tables.{same_text}
 use Rattle.shape_base.specs.declared.cause.Cause.{Cause}
-use Rattle.shape_base.specs.declared.definition.TableDef.{TableDef}
 use Rattle.shape_base.specs.declared.registry_event.RegistryEvent.{RegistryEvent}
 use Rattle.shape_base.specs.declared.registry_event.RegistryEvent.TheVariants.{Registered, Ready, Removed, Took, Redefined}
-use Rattle.shape_base.specs.RegistryHistory.{Registration, Removal, registrations, registration_in, removals, removal_in, made_ready, ready_in, was_registered, was_removed, had_ready, is_live, is_starting, live_registrations, live_under, MayRegister, MayFollow, MayAllFollow, IsLegal}
+use Rattle.shape_base.specs.RegistryHistory.{Registration, Removal, registrations, registration_in, removals, removal_in, made_ready, ready_in, was_registered, was_removed, had_ready, is_live, is_starting, live_registrations, MayRegister, MayFollow, MayAllFollow, IsLegal}
 use Rattle.shape_registry.proofs.Growing.{each_of_filter, each_from, part_stays, part_grows, any_more}
 
 -- ---- lists whose items differ

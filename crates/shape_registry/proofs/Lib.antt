@@ -8,3 +8,5 @@ pub mod Laws
 pub mod States
 pub mod KeptValues
 pub mod Catalog
+pub mod Parts
+pub mod Naming

@@ -1,25 +1,24 @@
 -- What the two maps of a registry find is what the list of its live handles has.
-use Rattle.std.proofs.Common.{◌≡◌, ℕ, ◌+◌, ◌≤◌, ◌<◌, Bool, true, false, not, cond, ◌&&◌, ◌==◌, List, [], ◌∷◌, ◌++◌, map, Option, None, Some, refl, sym, ◌∙◌, ap, subst, arith, rules}
-use Rattle.std.specs.Prelude.{IfSome, IsSomeAnd, filter, find, length, MatchOption}
-use Rattle.std.specs.List.{AllByRecursion, All}
-use Rattle.std.specs.Option.{option_map, option_and_then, option_copied}
+use Rattle.std.proofs.Common.{◌≡◌, ℕ, Bool, true, false, cond, ◌==◌, List, [], ◌∷◌, map, Option, None, Some, refl, sym, ◌∙◌, ap, subst, arith}
+use Rattle.std.specs.Prelude.{IfSome, IsSomeAnd, find}
+use Rattle.std.specs.List.{AllByRecursion}
+use Rattle.std.specs.Option.{option_map, option_copied}
 use Rattle.std.specs.Borrow.{Bor}
 use Rattle.std.specs.Ordering.{nat_cmp, is_eq}
-use Rattle.std.specs.declared.cmp.Ordering.{Ordering}
-use Rattle.std.specs.declared.cmp.Ordering.TheVariants.{Less, Equal, Greater}
-use Rattle.std.specs.Map.{lookup, keys_of, remove_entry, set_value}
-use Rattle.std.specs.BTreeMap.{is_at, insert_entry}
+use Rattle.std.specs.declared.cmp.Ordering.TheVariants.{Less}
+use Rattle.std.specs.Map.{lookup, keys_of}
+use Rattle.std.specs.BTreeMap.{is_at}
 use Rattle.std.specs.List.Sorted.{IsStrictlySortedBy}
-use Rattle.std.proofs.lemmas.Grind.{common_steps}
 use Rattle.std.proofs.lemmas.Bool.Decides.{Decides-eqb, nat_tests}
 use Rattle.std.proofs.lemmas.Slice.Eq.{slice_eq-Decides}
 use Rattle.std.specs.Bool.{Decides}
 use Rattle.shape_base.specs.Tables.{same_text}
 use Rattle.shape_base.specs.RegistryHistory.{LiveHandle, RegistryState}
 use Rattle.shape_registry.specs.declared.handles.LiveEntry.{LiveEntry}
+use Rattle.shape_registry.specs.declared.names.Live.{Live}
 use Rattle.shape_registry.specs.declared.standing.Standing.TheVariants as standings
 use Rattle.shape_registry.specs.State.{live_at, standing_in, standing_of}
-use Rattle.shape_registry.specs.Entries.{handle_in, AreLinked, number_under, entry_at}
+use Rattle.shape_registry.specs.Entries.{handle_in, live_of, name_of, AreLinked, entry_at}
 
 -- the tests decide
 
@@ -111,51 +110,35 @@ find_none : (es : List (ℕ × LiveEntry)) (identity : List ℕ) → find (λ l.
 find_none [] identity h n x g = cc
 find_none (e ∷ es) identity h n x g = find_none_step e identity (same_text e.1.identity identity) (is_at (nat_cmp n) e.0) _ _ x refl (λ a b. find_none es identity a n x b) h g
 
-back_at : (entries : List (ℕ × LiveEntry)) (identity : List ℕ) (f : Option ℕ) (n : ℕ) → IfSome f (λ number. IsSomeAnd (entry_at entries number) (λ x. x.identity ≡ identity)) → f ≡ Some n → IsSomeAnd (entry_at entries n) (λ x. x.identity ≡ identity)
-back_at entries identity f n h e = let P : Option ℕ → Type 0 = λ o. IfSome o (λ number. IsSomeAnd (entry_at entries number) (λ x. x.identity ≡ identity)) in subst P e h
+back_at : (entries : List (ℕ × LiveEntry)) (identity : List ℕ) (f : Option Live) (live : Live) → IfSome f (λ live. IsSomeAnd (entry_at entries live.number) (λ x. x.identity ≡ identity)) → f ≡ Some live
+    → IsSomeAnd (entry_at entries live.number) (λ x. x.identity ≡ identity)
+back_at entries identity f live h e = let P : Option Live → Type 0 = λ o. IfSome o (λ live. IsSomeAnd (entry_at entries live.number) (λ x. x.identity ≡ identity)) in subst P e h
 
 no_such : (identity : List ℕ) (o : Option LiveEntry) → IsSomeAnd o (λ x. x.identity ≡ identity) → ((x : LiveEntry) → o ≡ Some x → same_text x.identity identity ≡ false) → ⊥
 no_such identity None h none = h
 no_such identity (Some x) h none = let t : same_text x.identity identity ≡ true = (text_decides x.identity identity).1 h in let f : same_text x.identity identity ≡ false = none x refl in cc
 
--- the live handle of a number, by the map
-pub handle_at : List (ℕ × LiveEntry) → ℕ → Option LiveHandle
-handle_at entries n = option_map (λ x. handle_in (n, x)) (entry_at entries n)
+-- an entry is what its identity finds
+abbrev IsNamed : (List ℕ → Option Live) → ℕ → LiveEntry → Type 0
+IsNamed names n x = names x.identity ≡ Some (name_of n x)
 
--- an entry is found under its identity, and by its number
-record IsKept (numbers : List (List ℕ × ℕ)) (entries : List (ℕ × LiveEntry)) (n : ℕ) (x : LiveEntry) : Type 0 where
-  named : number_under numbers x.identity ≡ Some n
-  found : entry_at entries n ≡ Some x
+found_step : (names : List ℕ → Option Live) (identity : List ℕ) (f : Option Live) (r : Option LiveHandle) → names identity ≡ f
+    → ((l : LiveHandle) → r ≡ Some l → IsFound (IsNamed names) identity l) → ((live : Live) → r ≡ None → f ≡ Some live → ⊥)
+    → f ≡ option_map live_of r
+found_step names identity f (Some l) is some none = let s = some l refl in
+    sym is ∙ subst (λ i. names i ≡ Some (name_of l.number s.entry)) s.named s.holds ∙ ap (λ l. Some (live_of l)) (sym s.handle)
+found_step names identity None None is some none = refl
+found_step names identity (Some live) None is some none = absurd (none live refl refl)
 
-both : (numbers : List (List ℕ × ℕ)) (entries : List (ℕ × LiveEntry)) (n : ℕ) (o : Option LiveEntry) → entry_at entries n ≡ o → IfSome o (λ x. number_under numbers x.identity ≡ Some n) → IfSome o (IsKept numbers entries n)
-both numbers entries n None e h = tt
-both numbers entries n (Some x) e h = record { named = h; found = e }
+module _ (names : List ℕ → Option Live) (entries : List (ℕ × LiveEntry)) (given : ℕ) (linked : AreLinked names entries given) (identity : List ℕ) where
+  pub found_under : names identity ≡ option_map live_of (find (λ l. same_text l.identity identity) (map handle_in entries))
+  found_under = found_step names identity (names identity) (find (λ l. same_text l.identity identity) (map handle_in entries)) refl
+      (λ l e. find_some (IsNamed names) entries (each_found (IsNamed names) entries linked.ordered linked.forth) identity l e)
+      (λ live none e. no_such identity (entry_at entries live.number) (back_at entries identity (names identity) live (linked.back identity) e) (λ x is. find_none entries identity none live.number x is))
 
-found_step : (numbers : List (List ℕ × ℕ)) (entries : List (ℕ × LiveEntry)) (identity : List ℕ) (f : Option ℕ) (r : Option LiveHandle) → number_under numbers identity ≡ f
-    → ((l : LiveHandle) → r ≡ Some l → IsFound (IsKept numbers entries) identity l) → ((n : ℕ) → r ≡ None → f ≡ Some n → ⊥)
-    → r ≡ option_and_then (handle_at entries) f
-unfolding handle_at
-found_step numbers entries identity f (Some l) is some none = let s = some l refl in
-    let at : f ≡ Some l.number = sym is ∙ subst (λ i. number_under numbers i ≡ Some l.number) s.named s.holds.named in
-    let here : handle_at entries l.number ≡ Some l = ap (λ o. option_map (λ x. handle_in (l.number, x)) o) s.holds.found ∙ ap (λ l. Some l) (sym s.handle) in
-    sym (ap (option_and_then (handle_at entries)) at ∙ here)
-found_step numbers entries identity None None is some none = refl
-found_step numbers entries identity (Some n) None is some none = absurd (none n refl refl)
-
-pub found_under : (numbers : List (List ℕ × ℕ)) (entries : List (ℕ × LiveEntry)) (given : ℕ) → AreLinked numbers entries given → (identity : List ℕ)
-    → find (λ l. same_text l.identity identity) (map handle_in entries) ≡ option_and_then (handle_at entries) (number_under numbers identity)
-found_under numbers entries given h identity = found_step numbers entries identity (number_under numbers identity) (find (λ l. same_text l.identity identity) (map handle_in entries)) refl
-    (λ l e. find_some (IsKept numbers entries) entries (each_found (IsKept numbers entries) entries h.ordered (λ n. both numbers entries n (entry_at entries n) refl (h.forth n))) identity l e)
-    (λ n none e. no_such identity (entry_at entries n) (back_at entries identity (number_under numbers identity) n (h.back identity) e) (λ x is. find_none entries identity none n x is))
-
--- where no handle of the list has the identity, the map has none
-pub unnamed : (numbers : List (List ℕ × ℕ)) (entries : List (ℕ × LiveEntry)) (given : ℕ) → AreLinked numbers entries given → (identity : List ℕ)
-    → find (λ l. same_text l.identity identity) (map handle_in entries) ≡ None → number_under numbers identity ≡ None
-unnamed numbers entries given h identity none = no_number (number_under numbers identity) (λ n e. no_such identity (entry_at entries n) (back_at entries identity (number_under numbers identity) n (h.back identity) e) (λ x is. find_none entries identity none n x is))
-  where
-    no_number : (f : Option ℕ) → ((n : ℕ) → f ≡ Some n → ⊥) → f ≡ None
-    no_number None h = refl
-    no_number (Some n) h = absurd (h n refl)
+  -- where no handle of the list has the identity, it finds none
+  pub unnamed : find (λ l. same_text l.identity identity) (map handle_in entries) ≡ None → names identity ≡ None
+  unnamed none = found_under ∙ ap (option_map live_of) none
 
 -- ---- what the calls of the maps answer, as handles of the list
 
@@ -170,18 +153,6 @@ at_answer entries n r h = copied r ∙ ap (option_map (λ x. handle_in (n, x))) 
 pub numbers_of : (es : List (ℕ × LiveEntry)) → keys_of es ≡ map (λ l. l.number) (map handle_in es)
 numbers_of [] = refl
 numbers_of (e ∷ es) = ap (λ ns. e.0 ∷ ns) (numbers_of es)
-
-module _ (numbers : List (List ℕ × ℕ)) (entries : List (ℕ × LiveEntry)) (given : ℕ) (linked : AreLinked numbers entries given) (identity : List ℕ) where
-  pub live_some : (n : ℕ) (x : LiveEntry) → number_under numbers identity ≡ Some n → entry_at entries n ≡ Some x → find (λ l. same_text l.identity identity) (map handle_in entries) ≡ Some (handle_in (n, x))
-  unfolding handle_at
-  live_some n x named found = found_under numbers entries given linked identity ∙ ap (option_and_then (handle_at entries)) named ∙ ap (option_map (λ x. handle_in (n, x))) found
-
-  pub live_lost : (n : ℕ) → number_under numbers identity ≡ Some n → entry_at entries n ≡ None → find (λ l. same_text l.identity identity) (map handle_in entries) ≡ None
-  unfolding handle_at
-  live_lost n named lost = found_under numbers entries given linked identity ∙ ap (option_and_then (handle_at entries)) named ∙ ap (option_map (λ x. handle_in (n, x))) lost
-
-  pub live_none : number_under numbers identity ≡ None → find (λ l. same_text l.identity identity) (map handle_in entries) ≡ None
-  live_none none = found_under numbers entries given linked identity ∙ ap (option_and_then (handle_at entries)) none
 
 -- a number that is not found does not start
 pub not_starting : (s : RegistryState) (n : ℕ) → live_at s n ≡ None → standing_in s n ≡ standings.Starting → ⊥

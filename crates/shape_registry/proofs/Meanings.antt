@@ -1,27 +1,23 @@
 -- What a registry that stands for a history finds is what the history says.
-use Rattle.std.proofs.Common.{◌≡◌, ℕ, ◌+◌, ◌-◌, ◌^◌, ◌≤◌, ◌<◌, Bool, true, false, not, cond, ◌&&◌, ◌||◌, ◌==◌, List, [], ◌∷◌, ◌++◌, map, Option, None, Some, refl, sym, ◌∙◌, ap, subst, arith}
+use Rattle.std.proofs.Common.{◌≡◌, ℕ, ◌+◌, ◌-◌, ◌^◌, ◌≤◌, ◌<◌, Bool, true, false, not, cond, ◌&&◌, ◌||◌, ◌==◌, List, [], ◌∷◌, map, Option, None, Some, refl, sym, ◌∙◌, ap, subst, arith}
 use Rattle.std.specs.Prelude.{filter, find, length, nat_le, if◌then◌else◌, is_some}
 use Rattle.std.specs.List.{AllByRecursion, list_any}
 use Rattle.std.specs.Option.{option_map}
 use Rattle.std.proofs.lemmas.List.{length-map}
 use Rattle.std.proofs.lemmas.Bool.Decides.{Decides-eqb, nat_tests}
 use Rattle.shape_base.specs.Tables.{same_text}
-use Rattle.shape_base.specs.declared.handle.Handle.{Handle}
 use Rattle.shape_base.specs.declared.ask.Named.{Named}
 use Rattle.shape_base.specs.declared.ask.Named.TheVariants.{Absent, Known, Strange}
 use Rattle.shape_base.specs.declared.registry_event.RegistryEvent.{RegistryEvent}
-use Rattle.shape_base.specs.RegistryHistory.{RegistryStart, Registration, registrations, was_registered, was_registered_under, was_removed, had_ready, is_live, is_starting, taken_before, live_registrations, live_numbers, live_under, ready_under, is_live_under, is_live_handle, last_id, MayRegister, IsLegal, LiveHandle, RegistryState, live_handle, state_after, Stands}
-use Rattle.shape_registry.specs.declared.found.Found.{Found}
+use Rattle.shape_base.specs.RegistryHistory.{RegistryStart, Registration, registrations, was_registered, was_registered_under, was_removed, had_ready, is_live, is_starting, taken_before, live_registrations, live_numbers, live_under, ready_under, is_live_handle, last_id, MayRegister, IsLegal, LiveHandle, live_handle, state_after}
 use Rattle.shape_registry.specs.declared.found.Found.TheVariants as found
-use Rattle.shape_registry.specs.declared.refusal.Refusal.{Refusal}
 use Rattle.shape_registry.specs.declared.refusal.Refusal.TheVariants as refusals
-use Rattle.shape_registry.specs.declared.standing.Standing.{Standing}
 use Rattle.shape_registry.specs.declared.standing.Standing.TheVariants as standings
-use Rattle.shape_registry.specs.State.{live_at, live_as, standing_of, standing_in, id_in, found_live, found_as, ready_number, gone_in, found_named, found_in, refusal_new, refusal_in}
+use Rattle.shape_registry.specs.State.{live_at, live_as, standing_of, standing_in, found_live, found_as, ready_number, gone_in, found_named, found_in, refusal_new, refusal_in}
 use Rattle.shape_registry.specs.ByHistory.{standing_after, before_after, found_number, found_under, found_after, refusal_under, refusal_after}
 use Rattle.shape_registry.proofs.Linked.{text_decides}
 use Rattle.shape_registry.proofs.Growing.{find_of_map}
-use Rattle.shape_registry.proofs.Legal.{AreApart, same_number, same_name, Facts, facts_of}
+use Rattle.shape_registry.proofs.Legal.{AreApart, same_number, same_name, facts_of}
 
 -- ---- what a number finds
 

@@ -1,5 +1,5 @@
 -- What a registry keeps: the handle of a number and of an identity, and how each event changes it.
-use Rattle.std.specs.Prelude.{◌≡◌, ℕ, ◌+◌, ◌-◌, ◌^◌, nat_le, ◌&&◌, Bool, true, false, not, ◌||◌, ◌==◌, if◌then◌else◌, List, [], ◌∷◌, ◌++◌, length, map, filter, find, Option, None, Some, unwrap_or, slice_set}
+use Rattle.std.specs.Prelude.{ℕ, ◌+◌, ◌-◌, ◌^◌, nat_le, ◌&&◌, false, not, ◌||◌, ◌==◌, if◌then◌else◌, List, [], ◌∷◌, ◌++◌, length, map, filter, find, Option, None, Some, unwrap_or, slice_set}
 use Rattle.std.specs.Option.{option_map}
 use Rattle.shape_base.specs.declared.registry_event.RegistryEvent.{RegistryEvent}
 use Rattle.shape_base.specs.declared.registry_event.RegistryEvent.TheVariants as events
@@ -7,7 +7,7 @@ use Rattle.shape_base.specs.declared.ask.Named.{Named}
 use Rattle.shape_base.specs.declared.ask.Named.TheVariants.{Absent, Known, Strange}
 use Rattle.shape_base.specs.declared.handle.Handle.{Handle}
 use Rattle.shape_base.specs.Tables.{same_text}
-use Rattle.shape_base.specs.RegistryHistory.{RegistryState, LiveHandle, Taken}
+use Rattle.shape_base.specs.RegistryHistory.{RegistryState, LiveHandle}
 use Rattle.shape_registry.specs.declared.found.Found.{Found}
 use Rattle.shape_registry.specs.declared.found.Found.TheVariants as found
 use Rattle.shape_registry.specs.declared.refusal.Refusal.{Refusal}

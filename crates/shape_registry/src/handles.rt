@@ -1,16 +1,18 @@
 //! The live handles of a registry by number and by identity, without what is kept for them.
-ghost use Rattle.std.specs.Prelude.{◌≡◌, ℕ, ◌+◌, ◌-◌, ◌<◌, ◌^◌, ◌≢◌, [], None, Some, length, slice_get, map, IfOk, OnOk, OnErr, IsSome, IfSome, if◌then◌else◌, ◌&&◌};
+ghost use Rattle.std.specs.Prelude.{◌≡◌, ℕ, ◌+◌, ◌-◌, ◌<◌, ◌^◌, ◌≢◌, [], None, Some, length, slice_get, map, IfOk, OnOk, OnErr, IsSome, IfSome, if◌then◌else◌, ◌&&◌, ◌==◌};
 ghost use Rattle.std.specs.Option.{option_map};
 ghost use Rattle.std.specs.BTreeMap.{keys};
 ghost use Rattle.shape_base.specs.declared.cause.Cause.{Cause};
 ghost use Rattle.shape_base.specs.declared.registry_event.RegistryEvent.TheVariants as events;
 ghost use Rattle.shape_base.specs.Tables.{same_text};
 ghost use Rattle.shape_registry.specs.State.{gone_in, found_named, found_in, refusal_in, live_at, live_as, standing_in, id_in, lsn_in, after};
-ghost use Rattle.shape_registry.specs.Entries.{handle_in};
+ghost use Rattle.shape_registry.specs.Entries.{handle_in, live_of};
+ghost use Rattle.shape_registry.specs.Names.{found_handle};
 ghost use Rattle.shape_registry.specs.declared.found.Found.TheVariants as found;
 ghost use Rattle.shape_registry.specs.declared.standing.Standing.TheVariants as standings;
 
 use super::found::Found;
+use super::names::{Live, Names};
 use super::refusal::Refusal;
 use super::standing::Standing;
 use shape_base::{Duplicate, Handle, Named, Numbers, OutOfMemory, TableDef, TableDefs, Text};
@@ -35,20 +37,13 @@ pub struct LastTaken {
     pub xid: u32,
 }
 
-/// A live handle.
-#[derive(Clone, Copy)]
-pub struct Live {
-    pub number: u64,
-    pub is_ready: bool,
-}
-
 /// The live handles, the catalogue of definitions, and the counts. Contracts see what a registry keeps.
 #[derive(Drop)]
 pub struct Handles {
     run: Text,
     limit: u64,
     definitions: TableDefs,
-    numbers: BTreeMap<Text, u64>,
+    names: Names,
     entries: BTreeMap<u64, LiveEntry>,
     given: u64,
     taken: u64,
@@ -60,12 +55,13 @@ impl Model for Handles {
     ghost use Rattle.std.specs.Option.{option_map};
     ghost use Rattle.shape_base.specs.RegistryHistory.{RegistryState};
     ghost use Rattle.shape_registry.specs.Entries.{handle_in, taken_in, AreLinked};
+    ghost use Rattle.shape_registry.specs.Names.{name_under};
 
     ghost Value = { RegistryState };
 
     ghost view = { λ a. record { run = a.run; limit = a.limit; catalog = a.definitions; live = map handle_in a.entries.entries; given = a.given; taken = a.taken; last = option_map taken_in a.newest } };
 
-    ghost invariant = { λ a. AreLinked a.numbers.entries a.entries.entries a.given × (a.taken ≤ unwrap_or (option_map (λ t. t.lsn) a.newest) 0) };
+    ghost invariant = { λ a. AreLinked (name_under a.names) a.entries.entries a.given × (a.taken ≤ unwrap_or (option_map (λ t. t.lsn) a.newest) 0) };
 }
 
 /// The numbers of the entries.
@@ -98,21 +94,52 @@ fn ready_number(live: Live) -> Option<u64>
     }
 }
 
+/// The handle is of this run, and has the number of this live one.
+fn is_named(run: &Text, handle: &Handle, live: Live) -> bool
+    ensures { result ≡ (same_text handle.now.run run.now && (handle.now.number == live.number)) }
+{
+    handle.run == *run && handle.number == live.number
+}
+
+/// What is found for a handle that is named, by the one that is live under its identity.
+fn found_handle(run: &Text, handle: &Handle, live: Option<Live>) -> Found
+    ensures { result ≡ found_handle run.now handle.now live }
+{
+    match live {
+        Some(live) => {
+            if is_named(run, handle, live) {
+                found_live(live.number, live.is_ready)
+            } else {
+                Found::Gone {
+                    named: ready_number(live),
+                }
+            }
+        }
+        None => Found::Gone { named: None },
+    }
+}
+
 impl Handles {
     /// No handles.
-    pub fn new(alloc: Global, run: Text, limit: u64, definitions: TableDefs) -> Handles
-        ensures { result ≡ record { run = run; limit = limit; catalog = definitions; live = []; given = 0; taken = 0; last = None } }
+    pub fn new(
+        alloc: Global,
+        run: Text,
+        limit: u64,
+        definitions: TableDefs,
+    ) -> Result<Handles, OutOfMemory>
+        ensures { IfOk result (λ handles. handles ≡ record { run = run; limit = limit; catalog = definitions; live = []; given = 0; taken = 0; last = None }) }
     {
-        Handles {
+        let names = Names::new(alloc)?;
+        Ok(Handles {
             run,
             limit,
             definitions,
-            numbers: BTreeMap::new(alloc),
+            names,
             entries: BTreeMap::new(alloc),
             given: 0,
             taken: 0,
             newest: None,
-        }
+        })
     }
 
     /// The id of the last transaction taken.
@@ -191,18 +218,9 @@ impl Handles {
 
     /// The handle that is live under an identity.
     fn under(&self, identity: &Text) -> Option<Live>
-        ensures { result ≡ option_map (λ l. record { number = l.number; is_ready = l.ready }) (live_as self.now identity.now) }
+        ensures { result ≡ option_map live_of (live_as self.now identity.now) }
     {
-        match self.numbers.get(identity) {
-            Some(number) => match self.entries.get(number) {
-                Some(entry) => Some(Live {
-                    number: *number,
-                    is_ready: entry.is_ready,
-                }),
-                None => None,
-            },
-            None => None,
-        }
+        self.names.get(identity)
     }
 
     /// The identity is live under no handle of which the request speaks.
@@ -217,27 +235,11 @@ impl Handles {
         }
     }
 
-    /// The handle is of this run, and the entry of this identity.
-    fn is_named(&self, identity: &Text, handle: &Handle, entry: &LiveEntry) -> bool
-        ensures { result ≡ (same_text handle.now.run self.now.run && same_text entry.now.identity identity.now) }
-    {
-        handle.run == self.run && entry.identity == *identity
-    }
-
     /// What is found for a handle that is named.
     fn found_named(&self, identity: &Text, handle: &Handle) -> Found
         ensures { result ≡ found_named self.now identity.now handle.now (live_at self.now handle.now.number) }
     {
-        match self.at(handle.number) {
-            Some(entry) => {
-                if self.is_named(identity, handle, entry) {
-                    found_live(handle.number, entry.is_ready)
-                } else {
-                    self.gone(identity)
-                }
-            }
-            None => self.gone(identity),
-        }
+        found_handle(&self.run, handle, self.names.get(identity))
     }
 
     /// What is found for a request of an identity.
@@ -325,8 +327,12 @@ impl Handles {
             is_ready: false,
         };
         let _none = self.entries.insert(number, entry)?;
-        match self.numbers.insert(twin, number) {
-            Ok(_none) => {
+        let live = Live {
+            number,
+            is_ready: false,
+        };
+        match self.names.insert(twin, live) {
+            Ok(()) => {
                 self.given = number;
                 Ok(number)
             }
@@ -346,6 +352,7 @@ impl Handles {
             unreachable!();
         };
         entry.is_ready = true;
+        self.names.make_ready(&entry.identity);
     }
 
     /// The number is live no more.
@@ -355,6 +362,6 @@ impl Handles {
         let Some(entry) = self.entries.remove(&number) else {
             return;
         };
-        let _number = self.numbers.remove(&entry.identity);
+        self.names.remove(&entry.identity);
     }
 }

@@ -3,6 +3,7 @@
 
 mod found;
 mod handles;
+mod names;
 mod refusal;
 mod registry;
 mod standing;

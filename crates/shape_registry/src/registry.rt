@@ -58,7 +58,7 @@ impl<K> Registry<K> {
     ) -> Result<Registry<K>, OutOfMemory>
         ensures { IfOk result (λ registry. Stands (record { run = run; limit = limit; catalog = definitions }) [] registry.state × (registry.kept ≡ fin.empty)) }
     {
-        let handles = Handles::new(alloc, run, limit, definitions);
+        let handles = Handles::new(alloc, run, limit, definitions)?;
         let values = BTreeMap::new(alloc);
         Ok(Registry { handles, values })
     }

@@ -1,13 +1,10 @@
-use Rattle.std.proofs.Common.{◌≡◌, ℕ, ◌∙◌, ap, sym, subst, map, Option, Some, None, refl, nat_cmp}
+use Rattle.std.proofs.Common.{◌≡◌, ◌∙◌, ap, sym, subst, map, Some, None, refl}
 use Rattle.std.specs.Prelude.{IsSome}
-use Rattle.std.specs.Map.{keys_of, set_value}
-use Rattle.std.specs.BTreeMap.{is_at}
 use Rattle.std.specs.Option.{option_map}
-use Rattle.shape_registry.specs.declared.handles.LiveEntry.{LiveEntry}
-use Rattle.shape_base.specs.RegistryHistory.{LiveHandle, RegistryState}
 use Rattle.shape_registry.specs.contracts.handles.Handles.{the_view}
-use Rattle.shape_registry.specs.State.{live_at, after, with_ready}
+use Rattle.shape_registry.specs.State.{live_at, with_ready}
 use Rattle.shape_registry.specs.Entries.{handle_in, entry_at}
+use Rattle.shape_registry.specs.Names.{name_under}
 use Rattle.shape_registry.proofs.Linked.{find_number, not_starting}
 use Rattle.shape_registry.proofs.Changes.{with_live, made_ready, ready_is, ready_linked}
 use Rattle.shape_registry.proofs.handles.Handles.ready.Goals as goal
@@ -21,8 +18,8 @@ pub invariant_of-self : goal.invariant_of-self
 unfolding made_ready
 invariant_of-self c = let there : entry_at c.self.inside.entries.entries c.args.number ≡ Some c.in-Some.entry.now = sym c.in-Some.ensures.value in
     let holds = c.get_mut.follows.holds (made_ready c.in-Some.entry.now) in (
-      ready_linked c.self.inside.numbers.entries c.self.inside.entries.entries (c.get_mut.follows.lender (made_ready c.in-Some.entry.now)).entries c.self.inside.given c.args.number c.in-Some.entry.now (made_ready c.in-Some.entry.now)
-          c.self.invariant.0 there refl (holds.3 (subst (λ o. IsSome o) c.in-Some.ensures.value refl)).0 holds.4 holds.1,
+      ready_linked (name_under c.self.inside.names) (name_under c.make_ready.new.self) c.self.inside.entries.entries (c.get_mut.follows.lender (made_ready c.in-Some.entry.now)).entries c.self.inside.given c.args.number c.in-Some.entry.now (made_ready c.in-Some.entry.now)
+          c.self.invariant.0 there refl refl c.make_ready.ensures (holds.3 (subst (λ o. IsSome o) c.in-Some.ensures.value refl)).0 holds.4 holds.1,
       c.self.invariant.1,
     )
 

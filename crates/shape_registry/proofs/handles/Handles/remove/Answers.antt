@@ -1,20 +1,18 @@
-use Rattle.std.proofs.Common.{◌≡◌, ℕ, ◌∙◌, ap, sym, subst, map, nat_cmp, not, ◌==◌}
+use Rattle.std.proofs.Common.{◌≡◌, ◌∙◌, ap, sym, subst, map, not, ◌==◌}
 use Rattle.std.specs.Prelude.{filter}
-use Rattle.std.specs.Map.{keys_of, remove_entry}
-use Rattle.std.specs.BTreeMap.{is_at}
-use Rattle.shape_base.specs.RegistryHistory.{LiveHandle, RegistryState}
 use Rattle.shape_registry.specs.contracts.handles.Handles.{the_view}
 use Rattle.shape_registry.specs.Entries.{handle_in, AreLinked}
+use Rattle.shape_registry.specs.Names.{name_under}
 use Rattle.shape_registry.proofs.Changes.{with_live, removed_is, removed_linked}
 use Rattle.shape_registry.proofs.handles.Handles.remove.Goals as goal
 
 pub invariant_of-self : goal.invariant_of-self
-invariant_of-self c = (subst (λ es. AreLinked c.self.inside.numbers.entries es c.self.inside.given) (sym c.in_default.ensures.unchanged) c.self.invariant.0, c.self.invariant.1)
+invariant_of-self c = (subst (λ es. AreLinked (name_under c.self.inside.names) es c.self.inside.given) (sym c.in_default.ensures.unchanged) c.self.invariant.0, c.self.invariant.1)
 
 pub invariant_of-self-2 : goal.invariant_of-self-2
 invariant_of-self-2 c = (
-  removed_linked c.self.inside.numbers.entries c.remove-number.new.self.entries c.self.inside.entries.entries c.remove.new.self.entries c.self.inside.given c.args.number c.in-Some.entry
-      c.self.invariant.0 (sym c.in-Some.ensures.value) c.remove-number.ensures.updates.0 c.in-Some.ensures.updates.0 c.in-Some.ensures.ordered c.in-Some.ensures.entries,
+  removed_linked (name_under c.self.inside.names) (name_under c.remove-2.new.self) c.self.inside.entries.entries c.remove.new.self.entries c.self.inside.given c.args.number c.in-Some.entry
+      c.self.invariant.0 (sym c.in-Some.ensures.value) c.remove-2.ensures c.in-Some.ensures.updates.0 c.in-Some.ensures.ordered c.in-Some.ensures.entries,
   c.self.invariant.1,
 )
 

@@ -1,4 +1,4 @@
-use Rattle.std.proofs.Common.{◌≡◌, ◌∙◌, Option, None, Some, true, ap, sym, refl, subst, nat_cmp}
+use Rattle.std.proofs.Common.{◌≡◌, ◌∙◌, Option, None, Some, ap, sym, refl, subst, nat_cmp}
 use Rattle.std.specs.Prelude.{is_some, IsSome}
 use Rattle.std.specs.Option.{OnSome, option_copied_mut}
 use Rattle.std.specs.Borrow.{MutBor}

@@ -1,9 +1,9 @@
-use Rattle.std.proofs.Common.{◌≡◌, ◌∙◌, [], ◌∷◌, ◌++◌, Some, None, true, ap, sym, refl, subst}
+use Rattle.std.proofs.Common.{◌∙◌, [], ◌∷◌, ◌++◌, ap, sym, subst}
 use Rattle.std.specs.Prelude.{is_some}
 use Rattle.std.specs.FinMap as fin
 use Rattle.shape_base.specs.declared.registry_event.RegistryEvent.TheVariants as events
 use Rattle.shape_base.specs.RegistryHistory.{Stands}
-use Rattle.shape_registry.specs.State.{live_at, after, id_in}
+use Rattle.shape_registry.specs.State.{live_at, after}
 use Rattle.shape_registry.proofs.KeptValues.{get_in, remove_in}
 use Rattle.shape_registry.proofs.States.{keeps_removed}
 use Rattle.shape_registry.proofs.Laws.{live_by_history, adds_removed}

@@ -3,7 +3,7 @@ use Rattle.std.specs.Prelude.{map}
 use Rattle.std.proofs.lemmas.Result.{IfOk-weaker}
 use Rattle.shape_base.specs.declared.registry_event.RegistryEvent.TheVariants as events
 use Rattle.shape_base.specs.RegistryHistory.{Stands, live_numbers}
-use Rattle.shape_registry.specs.State.{lsn_in, after}
+use Rattle.shape_registry.specs.State.{lsn_in}
 use Rattle.shape_registry.specs.Registry.{ByHistory, Adds}
 use Rattle.shape_registry.proofs.Laws.{adds_took, numbers_by_history}
 use Rattle.shape_registry.proofs.registry.Registry.take.Goals as goal
