@@ -1,0 +1,5 @@
+mod BadRows
+mod Entering
+mod Growing
+mod Putting
+mod Taking
