@@ -91,15 +91,6 @@ pub fault_some : (r : Reader) (row : Values) (c : ℕ) (t : Tri) → IsTest r.kn
 fault_some r row c t test wide e least =
     rw (wide_test r.knows row wide, e, null_lacks r.knows.key row c least.passes) (ap (λ (n : ℕ). Some (errors.NullKey n)) (least_is row (is_null_key r.knows.key row) c least (key_within r.knows row c test wide least)))
 
-or_none : (a b : Bool) → (a || b) ≡ false → (a ≡ false) × (b ≡ false)
-or_none true b h = cc
-or_none false b h = (refl, h)
-
-pub fault_good : (r : Reader) (row : Values) → length row ≡ length r.knows.definition.columns → is_bad r.knows (Some row) ≡ false → fault_of r row ≡ None
-fault_good r row wide good =
-    let both = or_none (is_none (r.knows.truth row)) (lacks_key r.knows.key row) good in
-    rw (wide_test r.knows row wide, both.0, both.1) refl
-
 -- ---- the row that a change inserts
 
 wide_of : (s : Knows) (kind : ChangeKind) (row : Values) → kind ≡ Insert row → IsWhole s.definition kind → length row ≡ length s.definition.columns

@@ -29,10 +29,6 @@ use Rattle.shape_snapshot.specs.Refusals.{is_taken_key, log_of}
 pub shown_more : (s : Knows) (rows : Table) (row : Values) → shown s (rows ++ row ∷ []) ≡ shown s rows ++ shown s (row ∷ [])
 shown_more s rows row = ap (map (keyed s)) (filter-append (picks s) rows (row ∷ [])) ∙ map-append (keyed s) (filter (picks s) rows) (filter (picks s) (row ∷ []))
 
--- a row that is not selected shows nothing
-pub shown_same : (s : Knows) (rows : Table) (row : Values) → picks s row ≡ false → shown s (rows ++ row ∷ []) ≡ shown s rows
-shown_same s rows row passed = shown_more s rows row ∙ ap (λ (b : Bool). shown s rows ++ map (keyed s) (if b then row ∷ [] else [])) passed ∙ append-nil (shown s rows)
-
 pub shown_one : (s : Knows) (rows : Table) (row : Values) → picks s row ≡ true → shown s (rows ++ row ∷ []) ≡ shown s rows ++ keyed s row ∷ []
 shown_one s rows row picked = shown_more s rows row ∙ ap (λ (b : Bool). shown s rows ++ map (keyed s) (if b then row ∷ [] else [])) picked
 

@@ -1,5 +1,4 @@
 mod BadRows
-mod Entering
 mod Growing
 mod Putting
 mod Taking

@@ -30,15 +30,6 @@ numbered_more old new written e at writes offsets texts =
     let count : length new.texts ≡ length old.texts + 1 = ap length texts ∙ ap (λ (ts : List (List ℕ)). length (old.texts ++ ts)) writes.texts ∙ length-append old.texts (entry_text e ∷ []) in
     ap end_of offsets ∙ ap (λ (os : List Offset). end_of (old.offsets ++ os)) writes.offsets ∙ last_more (At 0 0) old.offsets e.offset ∙ at ∙ ap (At 0) (sym count)
 
-next_by : (n : ℕ) (b : Bool) → nat_lt n (n + 1) ≡ b → b ≡ true
-next_by n true e = refl
-next_by n false e = let lt : nat_lt n (n + 1) ≡ true = grind (arith, nat_tests) in sym e ∙ lt
-
--- it is after the last one
-pub next_after : (end : Offset) (written : Texts) (e : Entry) (n : ℕ) → end ≡ At 0 n → e.offset ≡ At 0 (n + 1) → Writes written (e ∷ []) → rise_after end written.offsets ≡ true
-next_after end written e n is at writes =
-    ap (λ (o : Offset). rise_after o written.offsets) is ∙ ap (rise_after (At 0 n)) writes.offsets ∙ ap (λ (o : Offset). rise_after (At 0 n) (o ∷ [])) at ∙ ap (λ (b : Bool). b && true) (next_by n (nat_lt n (n + 1)) refl)
-
 -- ---- room
 
 -- the key is new, and the sum keeps to the limit
@@ -49,17 +40,3 @@ fits l came key entries e b size sum new is small all within =
     let bytes = bytes_more entries e in
     let full : nat_lt l.log (bytes_of (entries ++ e ∷ [])) ≡ false = grind (arith, nat_tests) in
     ap (λ (c : Bool). refusal_by l c key (bytes_of (entries ++ e ∷ []))) new ∙ ap (λ (c : Bool). if c then Some (errors.LogFull (capped (bytes_of (entries ++ e ∷ []))) l.log) else None) full
-
--- the key came before
-pub came_before : (l : Limits) (came : Bool) (key : List ℕ) (bytes : ℕ) → came ≡ true → refusal_by l came key bytes ≡ Some (errors.DuplicateKey key)
-came_before l came key bytes is = ap (λ (c : Bool). refusal_by l c key bytes) is
-
--- the key is new, and the sum passes the limit
-pub passes : (l : Limits) (came : Bool) (key : List ℕ) (entries : List Entry) (e : Entry) (b size sum : ℕ) → came ≡ false → b ≡ bytes_of entries → size ≡ size_of e → sum ≡ min (b + size) (2 ^ 64 - 1) → l.log < sum
-    → refusal_by l came key (bytes_of (entries ++ e ∷ [])) ≡ Some (errors.LogFull sum l.log)
-passes l came key entries e b size sum new is small all over =
-    let bytes = bytes_more entries e in
-    let full : nat_lt l.log (bytes_of (entries ++ e ∷ [])) ≡ true = grind (arith, nat_tests) in
-    let same : capped (bytes_of (entries ++ e ∷ [])) ≡ sum = omega arith in
-    ap (λ (c : Bool). refusal_by l c key (bytes_of (entries ++ e ∷ []))) new ∙ ap (λ (c : Bool). if c then Some (errors.LogFull (capped (bytes_of (entries ++ e ∷ []))) l.log) else None) full
-    ∙ ap (λ (n : ℕ). Some (errors.LogFull n l.log)) same

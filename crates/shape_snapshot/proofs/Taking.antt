@@ -23,16 +23,7 @@ use Rattle.shape_snapshot.specs.declared.faults.SnapError.TheVariants as errors
 use Rattle.shape_snapshot.specs.Refusals.{fault_of, is_taken_key, log_of, full_of, refusal_by, refusal_behind, refusal_of, or_else, IsCause}
 use Rattle.shape_snapshot.specs.Taken.{HasTaken}
 use Rattle.shape_snapshot.specs.OneRow.{IsEntryOf}
-use Rattle.shape_snapshot.proofs.Growing.{shown_same, log_more, bytes_more, keys_more}
-
--- a row that is not selected leaves all as it is
-pub taken_same : (s : Knows) (kept : Kept) (rows : Table) (row : Values) → picks s row ≡ false → HasTaken s kept rows → HasTaken s kept (rows ++ row ∷ [])
-taken_same s kept rows row passed h =
-    let same : shown s (rows ++ row ∷ []) ≡ shown s rows = shown_same s rows row passed in
-    record {
-      keys = λ q. h.keys q ∙ sym (ap (list_any (λ (k : Keyed). same_text q k.0)) same);
-      log = subst (λ (es : List Entry). Holds kept.log es) (sym (ap (start_from 1) same)) h.log;
-    }
+use Rattle.shape_snapshot.proofs.Growing.{log_more, bytes_more, keys_more}
 
 -- the place of the next entry
 pub place_of : (s : Knows) (kept : Kept) (rows : Table) (pos : ℕ) → HasTaken s kept rows → pos ≡ length kept.log.texts + 1 → pos ≡ length (log_of s rows) + 1
@@ -55,16 +46,6 @@ pub taken_still : (s : Knows) (old new : Kept) (rows : Table) → HasTaken s old
 taken_still s old new rows h log keys = record { keys = λ q. keys q ∙ h.keys q; log = log }
 
 -- ---- why a row is refused
-
--- by itself
-pub cause_alone : (r : Reader) (l : Limits) (rows : Table) (row : Values) (e : SnapError) → IsCause (fault_of r row) e → IsCause (refusal_of r l rows row) e
-cause_alone r l rows row e (inl memory) = inl memory
-cause_alone r l rows row e (inr is) = inr (ap (λ (o : Option SnapError). or_else o (if picks r.knows row then refusal_behind r.knows l rows row else None)) is)
-
--- one that is not selected
-pub cause_none : (r : Reader) (l : Limits) (rows : Table) (row : Values) → fault_of r row ≡ None → picks r.knows row ≡ false → refusal_of r l rows row ≡ None
-cause_none r l rows row good passed =
-    ap (λ (o : Option SnapError). or_else o (if picks r.knows row then refusal_behind r.knows l rows row else None)) good ∙ ap (λ (b : Bool). if b then refusal_behind r.knows l rows row else None) passed
 
 -- one that is selected
 pub cause_behind : (r : Reader) (l : Limits) (kept : Kept) (rows : Table) (row : Values) (pos : ℕ) (e : Entry) → HasTaken r.knows kept rows → pos ≡ length kept.log.texts + 1 → fault_of r row ≡ None → picks r.knows row ≡ true → e ≡ insert_at 0 pos (keyed r.knows row)
