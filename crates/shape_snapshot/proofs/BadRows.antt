@@ -1,5 +1,5 @@
 -- The column in which a row cannot be read.
-use Rattle.std.proofs.Common.{◌≡◌, ◌⊎◌, inl, inr, ℕ, zero, suc, ◌+◌, ◌<◌, ◌≤◌, Bool, true, false, not, ◌&&◌, ◌||◌, ◌==◌, List, [], ◌∷◌, length, refl, sym, ◌∙◌, ap, subst, arith, Option, None, Some, is_none}
+use Rattle.std.proofs.Common.{◌≡◌, inl, inr, ℕ, zero, suc, ◌+◌, ◌<◌, ◌≤◌, Bool, true, false, ◌||◌, ◌==◌, List, [], ◌∷◌, length, refl, sym, ◌∙◌, ap, subst, arith, Option, None, Some, is_none}
 use Rattle.std.specs.Prelude.{MatchOption, slice_index_or, find, unwrap_or}
 use Rattle.std.specs.Bool.{if◌then◌else◌}
 use Rattle.std.specs.List.{list_any, range_with_len}
@@ -10,12 +10,11 @@ use Rattle.shape_base.specs.declared.value.Value.TheVariants.{Null}
 use Rattle.shape_base.specs.declared.change.ChangeKind.{ChangeKind}
 use Rattle.shape_base.specs.declared.change.ChangeKind.TheVariants.{Insert}
 use Rattle.shape_base.specs.Tables.{Values, lacks_key, is_null}
-use Rattle.shape_base.specs.Shape.{Knows, IsTest, IsReader, IsLeast, is_bad}
+use Rattle.shape_base.specs.Shape.{Knows, IsTest, IsReader, IsLeast}
 use Rattle.change_map.specs.Keys.{is_null_key}
 use Rattle.change_map.specs.Emitting.{IsBadAt, IsChangeBadAt, IsWhole}
 use Rattle.change_map.proofs.Places.{AreBelow, key_in_row}
-use Rattle.shape_json.specs.ShapeHistory.{Reader, bad_column, least_place}
-use Rattle.shape_snapshot.specs.declared.faults.SnapError.{SnapError}
+use Rattle.shape_json.specs.ShapeHistory.{Reader, least_place}
 use Rattle.shape_snapshot.specs.declared.faults.SnapError.TheVariants as errors
 use Rattle.shape_snapshot.specs.Refusals.{reader_of, fault_of}
 

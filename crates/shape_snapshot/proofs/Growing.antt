@@ -1,25 +1,22 @@
 -- The log and the keys of one row more.
-use Rattle.std.proofs.Common.{◌≡◌, ℕ, suc, ◌+◌, Bool, true, false, cond, not, ◌||◌, ◌<◌, List, [], ◌∷◌, ◌++◌, length, map, filter, refl, sym, ◌∙◌, ap, subst, arith, append_assoc, add_assoc, Option, None, Some, is_some}
-use Rattle.std.specs.Prelude.{min, nat_lt}
+use Rattle.std.proofs.Common.{◌≡◌, ℕ, suc, ◌+◌, Bool, true, false, cond, ◌||◌, List, [], ◌∷◌, ◌++◌, length, map, filter, refl, sym, ◌∙◌, ap, subst, arith}
 use Rattle.std.specs.Bool.{if◌then◌else◌}
-use Rattle.std.specs.Option.{option_to_list}
 use Rattle.std.specs.List.{list_any, sum}
 use Rattle.std.specs.BTreeSet as sorted
 use Rattle.std.specs.BTreeSet.{BTreeSet}
 use Rattle.std.specs.BTreeMap.{is_at}
 use Rattle.std.specs.Cmp.{eq_by_cmp_equiv}
 use Rattle.std.specs.Cmp.Lexicographic.{nat_list_cmp_total}
-use Rattle.std.proofs.lemmas.List.{append-nil, length-append, map-append}
+use Rattle.std.proofs.lemmas.List.{append-nil, map-append}
 use Rattle.std.proofs.lemmas.List.Elements.{filter-append}
 use Rattle.std.proofs.lemmas.List.Folds.{list_any-append}
 use Rattle.std.proofs.lemmas.List.Sums.{sum_by_push}
-use Rattle.shape_base.specs.declared.offset.Offset.TheVariants.{At}
 use Rattle.shape_base.specs.declared.entry.Entry.{Entry}
 use Rattle.shape_base.specs.Tables.{Values, Table, same_text}
 use Rattle.shape_base.specs.Shape.{Knows, Keyed, key_text, keyed, picks, shown, insert_at}
 use Rattle.shape_base.specs.Log.{start_from}
 use Rattle.shape_base.proofs.Lemmas.{text_cmp, tied, same_from_tied, tied_self, Decides-same_text}
-use Rattle.shape_json.specs.Body.{entry_text, capped, size_of}
+use Rattle.shape_json.specs.Body.{entry_text}
 use Rattle.shape_json.specs.Page.{sizes_of}
 use Rattle.shape_json.specs.ShapeHistory.{bytes_of}
 use Rattle.shape_snapshot.specs.Refusals.{is_taken_key, log_of}
@@ -28,6 +25,10 @@ use Rattle.shape_snapshot.specs.Refusals.{is_taken_key, log_of}
 
 pub shown_more : (s : Knows) (rows : Table) (row : Values) → shown s (rows ++ row ∷ []) ≡ shown s rows ++ shown s (row ∷ [])
 shown_more s rows row = ap (map (keyed s)) (filter-append (picks s) rows (row ∷ [])) ∙ map-append (keyed s) (filter (picks s) rows) (filter (picks s) (row ∷ []))
+
+-- a row that is not selected shows nothing
+pub shown_same : (s : Knows) (rows : Table) (row : Values) → picks s row ≡ false → shown s (rows ++ row ∷ []) ≡ shown s rows
+shown_same s rows row passed = shown_more s rows row ∙ ap (λ (b : Bool). shown s rows ++ map (keyed s) (if b then row ∷ [] else [])) passed ∙ append-nil (shown s rows)
 
 pub shown_one : (s : Knows) (rows : Table) (row : Values) → picks s row ≡ true → shown s (rows ++ row ∷ []) ≡ shown s rows ++ keyed s row ∷ []
 shown_one s rows row picked = shown_more s rows row ∙ ap (λ (b : Bool). shown s rows ++ map (keyed s) (if b then row ∷ [] else [])) picked

@@ -1,5 +1,5 @@
 -- An entry is put: its number, and the room that is left.
-use Rattle.std.proofs.Common.{◌≡◌, ℕ, ◌+◌, ◌-◌, ◌<◌, ◌≤◌, ◌^◌, Bool, true, false, ◌&&◌, ◌||◌, ◌==◌, List, [], ◌∷◌, ◌++◌, length, map, refl, sym, ◌∙◌, ap, subst, arith, length-append, Option, None, Some}
+use Rattle.std.proofs.Common.{◌≡◌, ℕ, ◌+◌, ◌-◌, ◌<◌, ◌≤◌, ◌^◌, Bool, false, List, [], ◌∷◌, ◌++◌, length, refl, sym, ◌∙◌, ap, arith, length-append, None, Some}
 use Rattle.std.specs.Prelude.{min, nat_lt}
 use Rattle.std.specs.Bool.{if◌then◌else◌}
 use Rattle.std.proofs.lemmas.Bool.Decides.{nat_tests}
@@ -7,14 +7,12 @@ use Rattle.shape_base.specs.declared.offset.Offset.{Offset}
 use Rattle.shape_base.specs.declared.offset.Offset.TheVariants.{At}
 use Rattle.shape_base.specs.declared.entry.Entry.{Entry}
 use Rattle.shape_base.specs.declared.limits.Limits.{Limits}
-use Rattle.shape_base.specs.Offsets.{is_before}
-use Rattle.shape_log.specs.Texts.{end_of, last_from, rise_after}
+use Rattle.shape_log.specs.Texts.{end_of, last_from}
 use Rattle.shape_json.specs.Body.{entry_text, size_of, capped}
 use Rattle.shape_json.specs.ShapeHistory.{bytes_of}
-use Rattle.chunked_log.specs.Chunked.{Chunked, Texts, Writes, offsets_of}
-use Rattle.shape_snapshot.specs.declared.faults.SnapError.{SnapError}
+use Rattle.chunked_log.specs.Chunked.{Chunked, Texts, Writes}
 use Rattle.shape_snapshot.specs.declared.faults.SnapError.TheVariants as errors
-use Rattle.shape_snapshot.specs.Refusals.{refusal_by, full_of}
+use Rattle.shape_snapshot.specs.Refusals.{refusal_by}
 use Rattle.shape_snapshot.proofs.Growing.{bytes_more}
 
 -- ---- numbers

@@ -40,7 +40,7 @@ impl<T: RowTest> Snap<T> {
     ) -> Result<Snap<T>, SnapError>
         ensures started { IfOk result (λ snap. start_of (T.knows test.now).definition last head.now ≡ Ok snap.vis) }
         ensures refused { IfErr result (IsRefusal (start_of (T.knows test.now).definition last head.now)) }
-        ensures taken { IfOk result (λ snap. HasTaken (T.knows test.now) snap.kept []) }
+        ensures taken { IfOk result (λ snap. HasTaken (reader_of (T.knows test.now) (T.unread test.now)) limits.now snap.kept []) }
         ensures test { IfOk result (λ snap. snap.emitter.test ≡ test.now) }
         ensures limits { IfOk result (λ snap. snap.limits ≡ limits.now) }
         ensures least { IfOk result (λ snap. snap.kept.log.least ≡ limits.now.chunk) }
@@ -65,10 +65,10 @@ impl<T: RowTest> Snap<T> {
     /// has the rows that it had.
     pub fn row(&mut self, row: Row) -> Result<(), SnapError>
         // Whatever rows were taken, the next is taken only where there is no cause to refuse it.
-        ensures came { (rows : Table) → HasTaken (T.knows self.old.emitter.test) self.old.kept rows → OnOk result (refusal_of (reader_of (T.knows self.old.emitter.test) (T.unread self.old.emitter.test)) self.old.limits rows row ≡ None) }
-        ensures refused { (rows : Table) → HasTaken (T.knows self.old.emitter.test) self.old.kept rows → IfErr result (IsCause (refusal_of (reader_of (T.knows self.old.emitter.test) (T.unread self.old.emitter.test)) self.old.limits rows row)) }
-        ensures taken { (rows : Table) → HasTaken (T.knows self.old.emitter.test) self.old.kept rows → OnOk result (HasTaken (T.knows self.new.emitter.test) self.new.kept (rows ++ row ∷ [])) }
-        ensures unchanged { (rows : Table) → HasTaken (T.knows self.old.emitter.test) self.old.kept rows → OnErr result (HasTaken (T.knows self.new.emitter.test) self.new.kept rows) }
+        ensures came { (rows : Table) → HasTaken (reader_of (T.knows self.old.emitter.test) (T.unread self.old.emitter.test)) self.old.limits self.old.kept rows → OnOk result (refusal_of (reader_of (T.knows self.old.emitter.test) (T.unread self.old.emitter.test)) self.old.limits rows row ≡ None) }
+        ensures refused { (rows : Table) → HasTaken (reader_of (T.knows self.old.emitter.test) (T.unread self.old.emitter.test)) self.old.limits self.old.kept rows → IfErr result (IsCause (refusal_of (reader_of (T.knows self.old.emitter.test) (T.unread self.old.emitter.test)) self.old.limits rows row)) }
+        ensures taken { (rows : Table) → HasTaken (reader_of (T.knows self.old.emitter.test) (T.unread self.old.emitter.test)) self.old.limits self.old.kept rows → OnOk result (HasTaken (reader_of (T.knows self.new.emitter.test) (T.unread self.new.emitter.test)) self.new.limits self.new.kept (rows ++ row ∷ [])) }
+        ensures unchanged { (rows : Table) → HasTaken (reader_of (T.knows self.old.emitter.test) (T.unread self.old.emitter.test)) self.old.limits self.old.kept rows → OnErr result (HasTaken (reader_of (T.knows self.new.emitter.test) (T.unread self.new.emitter.test)) self.new.limits self.new.kept rows) }
         ensures test { self.new.emitter.test ≡ self.old.emitter.test }
         ensures limits { self.new.limits ≡ self.old.limits }
         ensures visibility { self.new.vis ≡ self.old.vis }

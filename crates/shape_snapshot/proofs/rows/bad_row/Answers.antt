@@ -1,5 +1,4 @@
-use Rattle.std.proofs.Common.{◌≡◌, ◌∙◌, ap, sym, None, Some}
-use Rattle.shape_base.specs.Tables.{Values}
+use Rattle.std.proofs.Common.{◌∙◌, ap, sym}
 use Rattle.shape_snapshot.proofs.BadRows.{inserts_null, inserts_unread, same_row}
 use Rattle.shape_snapshot.proofs.rows.bad_row.Goals as goal
 
