@@ -1,4 +1,5 @@
 mod BadRows
+mod Good
 mod Growing
 mod Putting
 mod Taking

@@ -7,6 +7,7 @@
 mod faults;
 mod head;
 mod kept;
+pub mod laws;
 mod rows;
 mod snap;
 
