@@ -1,8 +1,8 @@
 -- Rows that were taken are good.
-use Rattle.std.proofs.Common.{◌≡◌, ℕ, ◌+◌, ◌<◌, ◌≤◌, Bool, true, false, not, ◌&&◌, ◌==◌, List, [], ◌∷◌, ◌++◌, length, refl, sym, ◌∙◌, ap, subst, arith, append_assoc, Option, None, Some, is_none}
+use Rattle.std.proofs.Common.{◌≡◌, ℕ, ◌≤◌, Bool, true, false, not, ◌&&◌, ◌==◌, List, [], ◌∷◌, ◌++◌, length, refl, sym, ◌∙◌, ap, subst, arith, append_assoc, Option, None, Some, is_none}
 use Rattle.std.specs.Prelude.{nat_lt}
 use Rattle.std.specs.Bool.{if◌then◌else◌}
-use Rattle.std.specs.List.{AllByRecursion, list_all}
+use Rattle.std.specs.List.{AllByRecursion}
 use Rattle.std.proofs.lemmas.Bool.{eqb-true}
 use Rattle.std.proofs.lemmas.Bool.Decides.{nat_tests}
 use Rattle.std.proofs.lemmas.List.{append-nil}
@@ -15,9 +15,9 @@ use Rattle.shape_json.specs.Body.{capped}
 use Rattle.shape_json.specs.ShapeHistory.{Reader, bytes_of, bad_column}
 use Rattle.shape_snapshot.specs.declared.faults.SnapError.{SnapError}
 use Rattle.shape_snapshot.specs.declared.faults.SnapError.TheVariants as errors
-use Rattle.shape_snapshot.specs.Refusals.{fault_of, is_taken_key, log_of, full_of, refusal_by, refusal_behind, refusal_of, or_else}
+use Rattle.shape_snapshot.specs.Refusals.{fault_of, is_taken_key, log_of, refusal_by, refusal_behind, refusal_of, or_else}
 use Rattle.shape_snapshot.specs.Taken.{AreAllTaken}
-use Rattle.shape_snapshot.specs.Laws.{AreGoodRows, TakenRowsAreGood}
+use Rattle.shape_snapshot.specs.Laws.{TakenRowsAreGood}
 use Rattle.shape_snapshot.proofs.Growing.{shown_same}
 
 -- ---- one row

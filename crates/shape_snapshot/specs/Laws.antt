@@ -1,5 +1,5 @@
 -- What holds of rows that were taken.
-use Rattle.std.specs.Prelude.{◌≡◌, ◌≤◌, true, false, List, [], length}
+use Rattle.std.specs.Prelude.{◌≡◌, ◌≤◌, true, false, [], length}
 use Rattle.std.specs.List.{AllByRecursion}
 use Rattle.shape_base.specs.declared.limits.Limits.{Limits}
 use Rattle.shape_base.specs.Tables.{Table, lacks_key}
