@@ -1,0 +1,3 @@
+mod Appending
+mod Paging
+pub mod Lemmas

@@ -1,0 +1,50 @@
+use Rattle.std.proofs.Common.{ℕ, List, ◌++◌, ap, ap₂, sym, ◌∙◌, subst, length, map, arith, length-append}
+use Rattle.std.proofs.lemmas.List.{map-append, length-map}
+use Rattle.chunk_cutter.specs.Cut.{HasCut}
+use Rattle.chunked_log.specs.declared.written.Line.{Line}
+use Rattle.chunked_log.specs.Lines.{offsets_in, sizes_in, texts_in}
+use Rattle.std.specs.List.{sum}
+use Rattle.chunked_log.specs.Chunked.{Chunked, Texts}
+use Rattle.chunked_log.proofs.Appending.{count_texts, sum_texts, sizes_texts}
+use Rattle.chunked_log.proofs.log.ChunkedLog.append.Goals as goal
+
+pub append_lines-requires-clause-spare : goal.append_lines-requires-clause-spare
+append_lines-requires-clause-spare c =
+    let w = c.written.inside in
+    omega (arith, c.requires.room.spare, count_texts w.lines.items w.buffer.items, ap (λ (x : Texts). length x.texts) c.written.view_is, ap (λ (x : Chunked). x.spare) c.self.view_is, ap length c.deref.ensures.value)
+
+pub append_lines-requires-clause-counted : goal.append_lines-requires-clause-counted
+append_lines-requires-clause-counted c =
+    let w = c.written.inside in
+    omega (arith, c.requires.room.spare, count_texts w.lines.items w.buffer.items, ap (λ (x : Texts). length x.texts) c.written.view_is, ap (λ (x : Chunked). x.spare) c.self.view_is, ap length c.deref.ensures.value)
+
+pub append_lines-requires-clause-room : goal.append_lines-requires-clause-room
+append_lines-requires-clause-room c =
+    let w = c.written.inside in
+    omega (arith, c.requires.room.room, count_texts w.lines.items w.buffer.items, sum_texts w.lines.items w.buffer.items c.written.invariant, ap (λ (x : Texts). length x.texts) c.written.view_is, ap (λ (x : Texts). sum (map length x.texts)) c.written.view_is, ap (λ (x : Chunked). x.room) c.self.view_is, ap length c.deref.ensures.value, ap length c.deref-2.ensures.value)
+
+pub invariant_of-self : goal.invariant_of-self
+invariant_of-self c =
+    let w = c.written.inside in
+    let lines = c.deref.ensures.value in
+    let bytes = c.deref-2.ensures.value in
+    let added = ap₂ texts_in lines bytes in
+    let sizes = sizes_texts w.lines.items w.buffer.items c.written.invariant in
+    record {
+      cut = subst (λ (ns : List ℕ). HasCut c.append_lines.new.cutter ns)
+          (ap (λ (ns : List ℕ). map length c.self.inside.log.texts ++ ns) (ap sizes_in lines ∙ sym sizes) ∙ sym (map-append length c.self.inside.log.texts (texts_in w.lines.items w.buffer.items))
+          ∙ ap (map length) (sym (c.append_lines.ensures.texts ∙ ap (λ (ts : List (List ℕ)). c.self.inside.log.texts ++ ts) added)))
+          (c.append_lines.ensures.cut (map length c.self.inside.log.texts) c.self.invariant.cut);
+      same = omega (
+        arith,
+        ap length c.append_lines.ensures.offsets,
+        ap length c.append_lines.ensures.texts,
+        ap length (ap offsets_in lines),
+        ap length added,
+        length-append c.self.inside.log.offsets (offsets_in c.deref.result.now),
+        length-append c.self.inside.log.texts (texts_in c.deref.result.now c.deref-2.result.now),
+        length-map w.lines.items (λ (l : Line). l.offset),
+        count_texts w.lines.items w.buffer.items,
+        c.self.invariant.same,
+      );
+    }

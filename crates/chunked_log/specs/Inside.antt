@@ -1,0 +1,15 @@
+-- What written entries and each log keep.
+use Rattle.std.specs.Prelude.{◌≡◌, length, map}
+use Rattle.chunk_cutter.specs.Cut.{HasCut}
+use Rattle.chunked_log.specs.Lines.{size_in}
+use Rattle.chunked_log.specs.declared.written.Written.TheInside as written
+use Rattle.chunked_log.specs.declared.log.ChunkedLog.TheInside as log
+
+-- the buffer has the texts, and nothing else
+abbrev pub IsWritten : written.Inside → Type 0
+IsWritten w = size_in w.lines.items ≡ length w.buffer.items
+
+-- the cutter has cut the sizes of the texts
+pub record IsChunked (l : log.Inside) : Type 0 where
+  pub cut : HasCut l.cutter (map length l.log.texts)
+  pub same : length l.log.offsets ≡ length l.log.texts

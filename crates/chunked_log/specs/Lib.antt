@@ -1,0 +1,4 @@
+pub mod Lines
+pub mod Chunked
+pub mod Inside
+pub mod Paging

@@ -1,0 +1,5 @@
+mod BadRows
+mod Good
+mod Growing
+mod Putting
+mod Taking

@@ -1,0 +1,4 @@
+pub mod Refusals
+pub mod OneRow
+pub mod Taken
+pub mod Laws
