@@ -1,38 +1,32 @@
 -- What a client asks and takes, and the blocks that it puts out.
-use Rattle.std.proofs.Common.{◌≡◌, ℕ, zero, suc, Bool, true, false, ◌&&◌, ◌==◌, List, [], ◌∷◌, ◌++◌, length, map, refl, sym, ◌∙◌, ap, subst, Option, None, Some, IfSome}
+use Rattle.std.proofs.Common.{◌≡◌, ℕ, zero, suc, Bool, true, false, List, [], ◌∷◌, ◌++◌, length, map, refl, sym, ◌∙◌, ap, subst, Option, None, Some, IfSome}
 use Rattle.std.specs.Bool.{if◌then◌else◌}
 use Rattle.std.specs.List.{slice_get, AllByRecursion}
-use Rattle.std.specs.Prelude.{nat_lt, is_none, IsSomeAnd}
+use Rattle.std.specs.Prelude.{is_none, IsSomeAnd}
 use Rattle.std.specs.FinMap as fin
-use Rattle.shape_base.specs.declared.ask.Ask.{Ask}
 use Rattle.shape_base.specs.declared.history.History.{History}
-use Rattle.shape_base.specs.declared.served.Served.{Served}
-use Rattle.shape_base.specs.Tables.{same_text}
 use Rattle.shape_base.proofs.Lemmas.{Decides-same_text}
-use Rattle.http_edge.specs.declared.error_code.ErrorCode.{ErrorCode}
 use Rattle.http_edge.specs.declared.error_code.ErrorCode.TheVariants as codes
 use Rattle.http_edge.specs.World.{World, IsGoodWorld}
-use Rattle.http_edge.specs.Lawful.{Asked, Refuses, AsksFor, IsLawful}
+use Rattle.http_edge.specs.Lawful.{Refuses, IsLawful}
 use Rattle.http_edge.specs.Fair.{IsFair}
 use Rattle.http_edge.proofs.Lemmas.{lawful_is_fair}
 use Rattle.fold_client.specs.Client.{Held, Outcome, UpToDate, More, Refetch, ServerRefused, BadReply, ForeignHandle, BadFold, take_reply}
-use Rattle.fold_client.specs.Following as following
-use Rattle.fold_client.specs.Following.{Heard, IsFairFor, Following, start, took, follow, followed, AreFair, IsCurrent, IsRight}
+use Rattle.fold_client.specs.Following.{Heard, IsFairFor, Following, start, took, follow, followed, AreFair, IsRight}
 use Rattle.fold_client.proofs.Steps.{client_law}
-use Rattle.core_events.specs.declared.out.StepError.{StepError}
 use Rattle.core_events.specs.declared.out.StepError.TheVariants as errors
 use Rattle.core_events.specs.declared.out.Unfit.TheVariants as unfit
-use Rattle.core_law.specs.Situation.{Options, Server, Exchange, Customer, Situation, world_of, held_of, next_target, placed, next_asked, identity_of}
+use Rattle.core_law.specs.Situation.{Options, Server, Exchange, Customer, Situation, world_of, held_of, next_target, next_asked, identity_of}
 use Rattle.core_law.specs.Steps.{change_at, settled, request}
-use Rattle.core_law.specs.Clients.{Out, Turn, Goes, Stops, is_unfit, finished, never, has_room, waits_at, is_long, requested, sent, send_by, took_one, out_of, took_heard, take_heard, is_next, take_exchange, take_by, joined, then_goes, goes_on, watch_heard, watch_exchange, watch_open, watched_by, watch}
-use Rattle.core_law.specs.Run.{next_of, outs_of}
-use Rattle.core_law.specs.Laws.{IsFirst, IsTold, IsLawfulExchange, IsRightBlock, IsRightOut}
+use Rattle.core_law.specs.Clients.{Out, Turn, Goes, Stops, is_unfit, never, has_room, waits_at, is_long, requested, sent, send_by, took_one, out_of, took_heard, take_heard, is_next, take_exchange, take_by, joined, then_goes, goes_on, watch_heard, watch_exchange, watch_open, watched_by, watch}
+use Rattle.core_law.specs.Run.{outs_of}
+use Rattle.core_law.specs.Laws.{IsFirst, IsRightBlock, IsRightOut}
 use Rattle.core_law.proofs.Lists.{changed_here}
-use Rattle.core_law.proofs.Server.{Sound, Extends, better_same, better_trans, extends_trans}
+use Rattle.core_law.proofs.Server.{better_same, better_trans, extends_trans}
 use Rattle.core_law.proofs.Fields.{HasFields, HasReplyFields, taken_fields}
-use Rattle.core_law.proofs.Targets.{ReadsBack, reads_nothing, has_target, reads_next}
+use Rattle.core_law.proofs.Targets.{reads_nothing, has_target, reads_next}
 use Rattle.core_law.proofs.Exchanges.{SaysFor, Fine, FineCustomer, Good}
-use Rattle.core_law.proofs.Turns.{all_changed, all_changed_at, all_at, all_both, KeepsGood, Moved, AreRight, TurnOk, stays_ok, stops_ok, gives_right, map_both, finished_ok, request_moved}
+use Rattle.core_law.proofs.Turns.{all_changed, all_changed_at, all_at, all_both, Moved, TurnOk, stays_ok, stops_ok, gives_right, map_both, finished_ok, request_moved}
 
 -- what is put out is right whatever situation comes after it
 abbrev ArePlainOuts : List Out → Type 0
@@ -92,9 +86,11 @@ send_if_plain o s n c false = λ w next. tt
 -- the block of a client that is up to date
 right_outs : (w : World) (n : ℕ) (next : Situation) (c : Customer) (xs : List Heard) (x : Heard) (held : Held) (outcome : Outcome) → slice_get next.customers n ≡ Some c → c.took ≡ xs ++ x ∷ [] → held_of c ≡ held
     → IsRight w (identity_of c) (followed start xs) (followed start c.took) x.given.shown outcome → AllByRecursion (IsRightOut w) (map {B = Out × Situation} (λ out. (out, next)) (out_of n held outcome))
-right_outs w n next c xs x held UpToDate at took same is =
-    (subst (λ found. IsSomeAnd found (λ c. IsRightBlock w c held.handle held.offset (fin.entries held.rows))) (sym at)
-        (record { earlier = xs; last = x; took = took; current = is; names = ap (λ (d : Held). d.handle) (sym same); ends = ap (λ (d : Held). d.offset) (sym same); are = ap (λ (d : Held). fin.entries d.rows) (sym same) }), tt)
+right_outs w n next c xs x held UpToDate at took same is = (
+  subst (λ found. IsSomeAnd found (λ c. IsRightBlock w c held.handle held.offset (fin.entries held.rows))) (sym at)
+      (record { earlier = xs; last = x; took = took; current = is; names = ap (λ (d : Held). d.handle) (sym same); ends = ap (λ (d : Held). d.offset) (sym same); are = ap (λ (d : Held). fin.entries d.rows) (sym same) }),
+  tt,
+)
 right_outs w n next c xs x held More at took same is = tt
 right_outs w n next c xs x held Refetch at took same is = (tt, tt)
 right_outs w n next c xs x held (ServerRefused status) at took same is = (tt, tt)
@@ -128,8 +124,8 @@ unit_fine Q o v w x q is = record { lawful = is.lawful; says = is.says; role = i
 took_ok : (R : Type 0) (o : Options) (s : Situation) (n e : ℕ) (c : Customer) (x : Exchange) (heard : Heard) → slice_get s.customers n ≡ Some c → slice_get s.exchanges e ≡ Some x → x.given ≡ Some heard → is_next c x.target ≡ true → TurnOk R o s (took_heard s n c heard)
 took_ok R o s n e c x heard at there given address =
     let fair : (h : History) (step : ℕ → ℕ) (z : Server) (Q : Type 0) → Q → IsGoodWorld (world_of o h step z) → Good Q o (world_of o h step z) s → IsFairFor (world_of o h step z) (identity_of c) (held_of c) heard = λ h step z Q q world g.
-        let is = all_at (FineCustomer o (world_of o h step z)) s.customers n c at (g.customers q) in
-        fair_for o h step z s.server c x heard world given (next_is c x.target address) (unit_fine Q o s.server (world_of o h step z) x q (all_at (Fine Q o s.server (world_of o h step z)) s.exchanges e x there g.exchanges)) is.first is.fields in
+    let is = all_at (FineCustomer o (world_of o h step z)) s.customers n c at (g.customers q) in
+    fair_for o h step z s.server c x heard world given (next_is c x.target address) (unit_fine Q o s.server (world_of o h step z) x q (all_at (Fine Q o s.server (world_of o h step z)) s.exchanges e x there g.exchanges)) is.first is.fields in
     let same : followed start (c.took ++ heard ∷ []) ≡ follow (followed start c.took) heard = followed_one_more start c.took heard in
     record {
       better = better_same o s.server;
@@ -150,7 +146,7 @@ took_ok R o s n e c x heard at there given address =
           let right = (client_law w (identity_of c) c.took world is.fair).1 heard (fair h step z Q q world g) in
           let next : Situation = record s { customers = change_at (took_one heard) s.customers n } in
           right_outs w n next (took_one heard c) c.took heard (take_reply (held_of c) heard.given.reply heard.body).held (took (followed start c.took) heard) (changed_here (took_one heard) s.customers n c at) refl (ap (λ f. f.held) same)
-              (subst (λ f. IsRight w (identity_of c) (followed start c.took) f heard.given.shown (took (followed start c.took) heard)) (sym same) right);
+          (subst (λ f. IsRight w (identity_of c) (followed start c.took) f heard.given.shown (took (followed start c.took) heard)) (sym same) right);
     }
 
 take_heard_ok : (R : Type 0) (o : Options) (s : Situation) (n e : ℕ) (c : Customer) (x : Exchange) (given : Option Heard) → slice_get s.customers n ≡ Some c → slice_get s.exchanges e ≡ Some x → x.given ≡ given → is_next c x.target ≡ true → TurnOk R o s (take_heard s n c given)

@@ -1,22 +1,20 @@
 -- What is kept of exchanges and clients, whatever comes: each reply is lawful and says what was written, and each client took fair ones.
-use Rattle.std.proofs.Common.{◌≡◌, ℕ, zero, suc, ◌+◌, ◌-◌, ◌^◌, ◌≤◌, ◌<◌, Bool, true, false, not, ◌&&◌, ◌||◌, ◌==◌, List, [], ◌∷◌, ◌++◌, length, map, refl, sym, ◌∙◌, ap, subst, arith, lit<, Option, None, Some, IfSome}
+use Rattle.std.proofs.Common.{◌≡◌, ℕ, zero, suc, ◌+◌, ◌^◌, ◌≤◌, ◌<◌, Bool, true, false, List, [], ◌∷◌, length, refl, sym, ◌∙◌, ap, subst, arith, lit<, Option, None, Some, IfSome}
 use Rattle.std.specs.Bool.{if◌then◌else◌}
 use Rattle.std.specs.List.{slice_get, AllByRecursion}
-use Rattle.std.specs.Option.{option_map, option_or, option_and_then}
+use Rattle.std.specs.Option.{option_map, option_or}
 use Rattle.std.specs.Prelude.{nat_lt}
 use Rattle.std.proofs.lemmas.Bool.{and_parts}
 use Rattle.std.proofs.lemmas.Bool.Decides.{Decides-ltb}
 use Rattle.shape_base.specs.declared.ask.Ask.{Ask}
 use Rattle.shape_base.specs.declared.ask.Named.{Named}
 use Rattle.shape_base.specs.declared.ask.Named.TheVariants.{Absent, Known, Strange}
-use Rattle.shape_base.specs.declared.definition.TableDef.{TableDef}
 use Rattle.shape_base.specs.declared.entry.Entry.{Entry}
 use Rattle.shape_base.specs.declared.handle.Handle.{Handle}
 use Rattle.shape_base.specs.declared.history.History.{History}
 use Rattle.shape_base.specs.declared.offset.Offset.{Offset}
 use Rattle.shape_base.specs.declared.offset.Offset.TheVariants.{Start, At}
-use Rattle.shape_base.specs.declared.reply.Reply.{Reply}
-use Rattle.shape_base.specs.Handle.{IsHandle, is_run}
+use Rattle.shape_base.specs.Handle.{IsHandle}
 use Rattle.shape_base.specs.OffsetText.{IsOffset}
 use Rattle.shape_base.specs.Offsets.{end_from}
 use Rattle.shape_base.specs.Log.{last_offset}
@@ -28,11 +26,11 @@ use Rattle.shape_json.proofs.Lemmas.{pages_are_asked, gone_names_ready, page_is_
 use Rattle.http_edge.specs.declared.error_code.ErrorCode.{ErrorCode}
 use Rattle.http_edge.specs.declared.error_code.ErrorCode.TheVariants as codes
 use Rattle.http_edge.specs.World.{World, Given, situation, IsGoodWorld}
-use Rattle.http_edge.specs.Lawful.{Asked, Refuses, AsksFor, next_cursor, reply_of, IsLawful}
+use Rattle.http_edge.specs.Lawful.{Asked, Refuses, AsksFor, next_cursor, IsLawful}
 use Rattle.fold_client.specs.Client.{Says}
 use Rattle.fold_client.specs.Following.{Heard, AreFair, start}
-use Rattle.core_law.specs.Situation.{Options, Shape, Server, shape_at, Role, Reads, Waits, Owns, HasNone, Exchange, Customer, Situation, answers_from, world_of, known_of, held_of, identity_of}
-use Rattle.core_law.specs.Steps.{Written, refused_with, body_of, written_as, written_to, reply_now, heard_at, settled_one, refused_at}
+use Rattle.core_law.specs.Situation.{Options, Shape, Server, shape_at, Role, Reads, Waits, Owns, HasNone, Exchange, Customer, Situation, answers_from, world_of, held_of, identity_of}
+use Rattle.core_law.specs.Steps.{Written, refused_with, written_as, written_to, reply_now, heard_at, settled_one, refused_at}
 use Rattle.core_law.specs.Laws.{IsFirst, IsTold, IsLawfulExchange}
 use Rattle.core_law.proofs.Lists.{some_same}
 use Rattle.core_law.proofs.Server.{Sound, Extends}

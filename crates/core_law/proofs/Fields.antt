@@ -1,5 +1,5 @@
 -- The parts of a client's target are ones that their texts are read back to.
-use Rattle.std.proofs.Common.{◌≡◌, ℕ, ◌^◌, ◌<◌, Bool, true, false, List, [], ◌∷◌, refl, subst, Option, None, Some, IfSome}
+use Rattle.std.proofs.Common.{ℕ, ◌^◌, ◌<◌, Bool, true, false, Option, None, Some, IfSome}
 use Rattle.std.specs.Bool.{if◌then◌else◌}
 use Rattle.std.specs.Prelude.{◌==◌}
 use Rattle.shape_base.specs.declared.handle.Handle.{Handle}

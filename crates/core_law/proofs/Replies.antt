@@ -1,13 +1,10 @@
 -- Each reply that is given now is lawful in the world that a later server tells, and its body says what was written.
-use Rattle.std.proofs.Common.{◌≡◌, ℕ, zero, suc, ◌+◌, ◌^◌, ◌≤◌, ◌<◌, Bool, true, false, not, ◌&&◌, ◌||◌, ◌==◌, List, [], ◌∷◌, ◌++◌, length, map, take, refl, sym, ◌∙◌, ap, subst, arith, Option, None, Some, IfSome}
+use Rattle.std.proofs.Common.{◌≡◌, ℕ, Bool, true, false, List, [], ◌∷◌, length, refl, sym, ◌∙◌, ap, subst, arith, Option, None, Some}
 use Rattle.std.specs.Bool.{if◌then◌else◌}
-use Rattle.std.specs.List.{slice_get}
 use Rattle.std.specs.Option.{option_map}
 use Rattle.std.specs.Prelude.{find, filter, cond}
 use Rattle.shape_base.specs.declared.ask.Ask.{Ask}
-use Rattle.shape_base.specs.declared.ask.Named.{Named}
 use Rattle.shape_base.specs.declared.ask.Named.TheVariants.{Absent}
-use Rattle.shape_base.specs.declared.cause.Cause.{Cause}
 use Rattle.shape_base.specs.declared.cause.Cause.TheVariants as causes
 use Rattle.shape_base.specs.declared.entry.Entry.{Entry}
 use Rattle.shape_base.specs.declared.handle.Handle.{Handle}
@@ -27,21 +24,20 @@ use Rattle.shape_json.specs.Answer.{Answer, Paged, Gone, OffsetAhead, NotYet, St
 use Rattle.shape_json.proofs.Lemmas.{pages_are_asked, page_is_front, body_once}
 use Rattle.http_edge.specs.declared.error_code.ErrorCode.{ErrorCode}
 use Rattle.http_edge.specs.declared.error_code.ErrorCode.TheVariants as codes
-use Rattle.http_edge.specs.Refusals.{error_body, refusal}
+use Rattle.http_edge.specs.Refusals.{error_body}
 use Rattle.http_edge.specs.World.{World, Given, log_at, situation, IsGoodWorld}
-use Rattle.http_edge.specs.Lawful.{Asked, Refuses, AsksFor, control_of, reply_of, refusal_to_register, is_of_snapshot, HasLost, IsLawful, BeforeHandle, ByAnswer, NotRegistered, BySnapshot, ByLoss}
+use Rattle.http_edge.specs.Lawful.{Asked, Refuses, AsksFor, control_of, reply_of, refusal_to_register, is_of_snapshot, IsLawful, BeforeHandle, ByAnswer, NotRegistered, BySnapshot, ByLoss}
 use Rattle.http_edge.proofs.Lemmas.{ready_later}
 use Rattle.http_edge.proofs.Logs.{rises_at, plain_at, offsets_at}
 use Rattle.http_edge.proofs.Pages.{alike_itself}
 use Rattle.fold_client.specs.declared.body.Body.{Body}
 use Rattle.fold_client.specs.Client.{Says}
-use Rattle.fold_client.specs.Following.{Heard}
 use Rattle.core_law.specs.Situation.{Options, Server, Role, Reads, Waits, Owns, HasNone, answers_from, world_of, known_of}
-use Rattle.core_law.specs.Steps.{Written, refused_with, body_of, written_as, answered, written_to, unless_lost, reply_now, heard_at}
+use Rattle.core_law.specs.Steps.{Written, refused_with, written_as, answered, written_to, reply_now}
 use Rattle.core_law.specs.Laws.{IsTold}
 use Rattle.core_law.proofs.Lists.{some_same}
 use Rattle.core_law.proofs.Server.{Sound, Extends}
-use Rattle.core_law.proofs.Worlds.{seen_is, answer_is, reply_is, found_ready}
+use Rattle.core_law.proofs.Worlds.{seen_is, answer_is, reply_is}
 
 -- ---- what an exchange waits for
 

@@ -1,10 +1,8 @@
 -- What a server keeps through its steps.
-use Rattle.std.proofs.Common.{◌≡◌, ℕ, zero, suc, ◌+◌, ◌^◌, ◌≤◌, ◌<◌, Bool, true, false, ◌||◌, List, [], ◌∷◌, ◌++◌, length, drop, refl, sym, ◌∙◌, ap, subst, append_assoc, Option, None, Some, ◌⊎◌, inl, inr}
+use Rattle.std.proofs.Common.{◌≡◌, ℕ, zero, suc, ◌^◌, ◌≤◌, ◌<◌, Bool, true, false, ◌||◌, List, [], ◌∷◌, ◌++◌, length, drop, refl, sym, ◌∙◌, ap, subst, append_assoc, Option, None, Some, ◌⊎◌, inl, inr}
 use Rattle.std.specs.Bool.{if◌then◌else◌}
-use Rattle.std.specs.List.{slice_get}
 use Rattle.std.specs.Prelude.{is_none}
 use Rattle.std.proofs.lemmas.List.{append-nil}
-
 use Rattle.shape_base.specs.declared.ask.Ask.{Ask}
 use Rattle.shape_base.specs.declared.cause.Cause.{Cause}
 use Rattle.shape_base.specs.declared.change.Tx.{Tx}
@@ -14,12 +12,12 @@ use Rattle.shape_base.specs.declared.registry_event.RegistryEvent.TheVariants.{R
 use Rattle.shape_base.specs.Tables.{same_def}
 use Rattle.shape_base.specs.Snapshot.{Snapshot, definition_in}
 use Rattle.shape_base.specs.Shape.{have_truths}
-use Rattle.shape_base.specs.RegistryHistory.{registration_in, ready_in, registrations, had_ready, was_removed, was_registered_under, is_live, MayFollow, IsLegal}
+use Rattle.shape_base.specs.RegistryHistory.{registration_in, registrations, had_ready, was_removed, was_registered_under, is_live, MayFollow, IsLegal}
 use Rattle.shape_base.proofs.Lemmas.{was_registered_under-append, was_removed-append, had_ready-append, legal_next}
 use Rattle.shape_json.specs.ShapeHistory.{Reader, ShapeEvent, Snapped, Took, Dropped, taken, snapshot_in}
 use Rattle.shape_registry.proofs.Growing.{part_stays}
 use Rattle.core_law.specs.Situation.{Options, Shape, Server, shape_at, reader_under}
-use Rattle.core_law.specs.Steps.{change_at, with_event, change_shape, with_registry, with_shape_event, redefined, removed, dropped, id_before, stale_by}
+use Rattle.core_law.specs.Steps.{with_event, change_shape, with_registry, with_shape_event, redefined, removed, dropped, id_before, stale_by}
 use Rattle.core_law.specs.Laws.{IsStart}
 use Rattle.core_law.proofs.Lists.{Before, changed_back, Later, changed_forth, changed_here, length_changed}
 

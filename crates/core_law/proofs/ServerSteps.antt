@@ -1,8 +1,8 @@
 -- Each step of the server keeps what it keeps, and loses nothing.
-use Rattle.std.proofs.Common.{◌≡◌, ℕ, zero, suc, ◌+◌, ◌-◌, ◌^◌, ◌≤◌, ◌<◌, Bool, true, false, not, ◌&&◌, ◌||◌, ◌==◌, List, [], ◌∷◌, ◌++◌, length, drop, refl, sym, ◌∙◌, ap, subst, arith, length-append, Option, None, Some, IfSome, ◌⊎◌, inl, inr}
+use Rattle.std.proofs.Common.{◌≡◌, ℕ, zero, suc, ◌+◌, ◌-◌, ◌^◌, ◌≤◌, ◌<◌, Bool, true, false, not, ◌&&◌, ◌||◌, ◌==◌, List, [], ◌∷◌, ◌++◌, length, refl, sym, ◌∙◌, ap, subst, arith, length-append, Option, None, Some, ◌⊎◌, inl, inr}
 use Rattle.std.specs.Bool.{if◌then◌else◌}
 use Rattle.std.specs.List.{slice_get}
-use Rattle.std.specs.Option.{option_map, option_and_then}
+use Rattle.std.specs.Option.{option_map}
 use Rattle.std.specs.Prelude.{nat_lt, is_none}
 use Rattle.std.proofs.lemmas.Bool.{and_parts}
 use Rattle.std.proofs.lemmas.Bool.Decides.{Decides-ltb, Decides-eqb, nat_tests}
@@ -16,17 +16,16 @@ use Rattle.shape_base.specs.declared.registry_event.RegistryEvent.TheVariants.{R
 use Rattle.shape_base.specs.Tables.{same_text, same_def}
 use Rattle.shape_base.specs.Snapshot.{Snapshot, definition_in}
 use Rattle.shape_base.specs.Shape.{have_truths}
-use Rattle.shape_base.specs.RegistryHistory.{Registration, registration_in, registrations, live_registrations, had_ready, was_removed, was_registered_under, is_live, is_starting, live_under, last_id, last_lsn, definition_after, MayRegister}
+use Rattle.shape_base.specs.RegistryHistory.{Registration, registration_in, registrations, live_registrations, had_ready, was_removed, was_registered_under, is_live, is_starting, live_under, last_id, last_lsn}
 use Rattle.shape_base.proofs.Lemmas.{Decides-same_text, was_registered_under-append, was_removed-append, had_ready-append, legal_next}
 use Rattle.shape_json.specs.ShapeHistory.{Reader, Snapped, taken, snapshot_in, drop_of}
 use Rattle.shape_json.specs.ShapeHistory as shapes
 use Rattle.shape_registry.proofs.Growing.{part_stays, part_grows}
 use Rattle.shape_registry.proofs.Legal.{facts_of}
-use Rattle.shape_registry.proofs.Catalog.{catalog_placed}
 use Rattle.http_edge.specs.declared.error_code.ErrorCode.{ErrorCode}
 use Rattle.http_edge.specs.declared.error_code.ErrorCode.TheVariants as codes
-use Rattle.core_law.specs.Situation.{Options, Shape, Server, shape_at, reader_under, reader_for}
-use Rattle.core_law.specs.Steps.{with_event, with_registry, with_shape_event, redefined, dropped, with_shape, took_one, took_from, bytes_kept, all_bytes, with_commit, definition_by, removed_for, swept_from, after_commit, id_before, stale_by, untrue_by, or_else, refusal_of_snapshot, started_by, started}
+use Rattle.core_law.specs.Situation.{Options, Shape, Server, shape_at, reader_under}
+use Rattle.core_law.specs.Steps.{with_event, with_registry, with_shape_event, redefined, with_shape, took_one, took_from, bytes_kept, all_bytes, with_commit, definition_by, removed_for, swept_from, after_commit, id_before, stale_by, untrue_by, or_else, refusal_of_snapshot, started_by, started}
 use Rattle.core_law.proofs.Lists.{place_stays, one_more, last_place, place_before, some_same}
 use Rattle.core_law.proofs.Server.{Alike, IsShape, FitsShape, Started, Named, Sound, GoesOn, Extends, Better, alike_same, better_same, better_trans, snapshot_comes, taken-append, alike_event, started_on, named_on, either_false, first_true, shape_stays, removes, redefines_some, at_changed_here, event_better}
 
@@ -212,7 +211,7 @@ commits : (o : Options) (v : Server) (tx : Tx) → nat_lt (last_lsn v.registry) 
 commits o v tx rises =
     let e = Took tx.lsn tx.xid in
     let on : (n : ℕ) (x : Shape) → shape_at v.shapes n ≡ Some x → GoesOn v (with_commit o v tx) n x = λ n x h.
-        let r = at_received_forth o v.registry tx v.shapes n x h in record { now = took_one v.registry n tx r.others x; there = r.there; alike = alike_received tx r.others x (was_removed v.registry n) } in
+    let r = at_received_forth o v.registry tx v.shapes n x h in record { now = took_one v.registry n tx r.others x; there = r.there; alike = alike_received tx r.others x (was_removed v.registry n) } in
     record {
       sound = λ s. record {
         start = s.start;

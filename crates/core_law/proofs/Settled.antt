@@ -4,14 +4,12 @@ use Rattle.std.specs.Bool.{if◌then◌else◌}
 use Rattle.std.specs.List.{slice_get, AllByRecursion}
 use Rattle.std.specs.Option.{option_map}
 use Rattle.std.specs.Prelude.{nat_lt, is_none}
-use Rattle.shape_base.specs.declared.change.Tx.{Tx}
 use Rattle.shape_base.specs.declared.ask.Ask.{Ask}
 use Rattle.shape_base.specs.declared.ask.Named.{Named}
 use Rattle.shape_base.specs.declared.ask.Named.TheVariants.{Absent, Known, Strange}
 use Rattle.shape_base.specs.declared.cause.Cause.TheVariants.{Deleted}
 use Rattle.shape_base.specs.declared.entry.Entry.{Entry}
 use Rattle.shape_base.specs.declared.handle.Handle.{Handle}
-use Rattle.shape_base.specs.declared.offset.Offset.{Offset}
 use Rattle.shape_base.specs.Offsets.{is_before, past}
 use Rattle.shape_base.specs.Log.{end_of}
 use Rattle.shape_base.specs.Snapshot.{Snapshot}
@@ -27,7 +25,7 @@ use Rattle.core_events.specs.declared.out.Unfit.TheVariants as unfit
 use Rattle.fold_client.specs.Client.{take_reply}
 use Rattle.fold_client.specs.Following.{Heard}
 use Rattle.core_law.specs.Situation.{Options, Shape, Server, shape_at, Role, Reads, Waits, Owns, HasNone, Exchange, Customer, Situation, at_start, answers_from, held_of}
-use Rattle.core_law.specs.Steps.{Written, refused_with, written_as, answered, written_to, unless_lost, reply_now, heard_at, settled_one, Fault, code_of, owned_by, refusal_of_snapshot, snapshot_ends, snapped, dropped, after_commit, request, with_exchange, with_role, exchange_at}
+use Rattle.core_law.specs.Steps.{Written, refused_with, written_as, written_to, reply_now, heard_at, settled_one, Fault, code_of, owned_by, refusal_of_snapshot, snapshot_ends, snapped, dropped, after_commit, request, with_exchange, with_role, exchange_at}
 use Rattle.core_law.specs.Clients.{Out, Turn, Goes, Stops, is_unfit, finished, never, has_room, requested, sent, send_by, take_heard, is_next, take_exchange, take_by, joined, then_goes, goes_on, watch_heard, watch_exchange, watch_open, watched_by, watch}
 use Rattle.core_law.specs.Run as run
 use Rattle.core_law.specs.Run.{RequestCame, HeadCut, SnapshotCame, SnapshotEnded, Committed, Remove, Moment, Joined, SendNext, Receive, Watch, come, cut, snap_shape, snap, fail, commit, is_late_at, join, rounds, turn_of, next_of, after}

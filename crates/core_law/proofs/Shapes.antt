@@ -11,18 +11,18 @@ use Rattle.shape_base.specs.declared.served.Served.{Served}
 use Rattle.shape_base.specs.Tables.{place_of, key_places}
 use Rattle.shape_base.specs.Snapshot.{Snapshot, IsTakenAt, definition_in}
 use Rattle.shape_base.specs.Shape.{Knows, IsTest}
-use Rattle.shape_base.specs.RegistryHistory.{had_ready, was_registered_under}
+use Rattle.shape_base.specs.RegistryHistory.{had_ready}
 use Rattle.shape_base.proofs.Lemmas.{Decides-same_def}
 use Rattle.shape_json.specs.ShapeHistory.{Reader}
 use Rattle.column_names.specs.Names.{has_name_twice}
 use Rattle.shape_def.specs.declared.faults.DefError.{DefError}
 use Rattle.shape_def.specs.Identity.{Names}
 use Rattle.shape_def.specs.Clauses.{unread_under, refusal_of_clause}
-use Rattle.shape_def.specs.Definition.{is_chosen, selected_places, is_key_missing, refusal_of_choice, refusal_of, knows_of, knows_by, knows_with, knows_for}
+use Rattle.shape_def.specs.Definition.{selected_places, is_key_missing, refusal_of_choice, refusal_of, knows_of, knows_by, knows_with, knows_for}
 use Rattle.shape_def.proofs.Refusals.{is_test}
-use Rattle.http_edge.specs.World.{Kept, World, IsGoodShape, IsGoodKept, IsGoodWorld}
+use Rattle.http_edge.specs.World.{IsGoodShape, IsGoodKept, IsGoodWorld}
 use Rattle.core_law.specs.Situation.{Options, Shape, Server, shape_at, kept_by, kept_of, world_of, reader_under}
-use Rattle.core_law.specs.Laws.{IsTold, IsOfRequest, AreOfRequests}
+use Rattle.core_law.specs.Laws.{IsTold, AreOfRequests}
 use Rattle.core_law.proofs.Lists.{some_same}
 use Rattle.core_law.proofs.Server.{IsShape, FitsShape, Sound}
 

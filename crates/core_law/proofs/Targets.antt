@@ -1,13 +1,10 @@
 -- What the targets of clients ask for.
-use Rattle.std.proofs.Common.{◌≡◌, ◌⊎◌, inl, inr, ℕ, ◌<◌, ◌^◌, Bool, true, false, List, [], ◌∷◌, Option, None, Some, IfSome, is_some, unwrap_or, Result, Ok, Err, refl, sym, ap, subst, ◌∙◌, codes, decimal, option_map, ◌≢◌}
+use Rattle.std.proofs.Common.{◌≡◌, ◌⊎◌, inl, inr, ℕ, ◌<◌, ◌^◌, Bool, true, false, List, Option, None, Some, IfSome, is_some, unwrap_or, Result, Ok, Err, refl, sym, ap, subst, ◌∙◌, codes, decimal, option_map, ◌≢◌}
 use Rattle.std.specs.Prelude.{IsSomeAnd}
-use Rattle.std.specs.Str.{IsUtf8}
 use Rattle.std.proofs.lemmas.Fmt.{decimal_injective}
 use Rattle.form_urlencoded.specs.Form.{parse}
 use Rattle.shape_base.specs.declared.ask.Ask.{Ask}
-use Rattle.shape_base.specs.declared.ask.Named.{Named}
 use Rattle.shape_base.specs.declared.handle.Handle.{Handle}
-use Rattle.shape_base.specs.declared.offset.Offset.{Offset}
 use Rattle.shape_base.specs.declared.served.Served.{Served}
 use Rattle.shape_base.specs.Handle.{IsHandle, handle_text}
 use Rattle.shape_base.specs.OffsetText.{IsOffset, offset_text}
@@ -19,7 +16,7 @@ use Rattle.http_edge.specs.declared.refusal.Refusal.{Refusal}
 use Rattle.http_edge.specs.declared.refusal.Refusal.TheVariants as refusals
 use Rattle.http_edge.specs.Lawful.{Asked, AsksFor}
 use Rattle.http_edge.specs.Parameters.{Pair, path_of, query_of, HasBadEscape, value_under, has_repeated}
-use Rattle.http_edge.specs.Route.{served_path, IsTooLong, HasNoOffset, NeedsHandle, IsLiveAtStart, table_name, names_of, IsTextOf, IsCanonical, IsNotServed, Routed, Refuses, RefusesAt, ClauseTried, Asks, IsAskOf, TableTried, PlaceTried, ParametersTried, IsRouted, syntax_place}
+use Rattle.http_edge.specs.Route.{served_path, IsTooLong, HasNoOffset, NeedsHandle, IsLiveAtStart, table_name, names_of, IsTextOf, IsCanonical, IsNotServed, Routed, Refuses, RefusesAt, ClauseTried, Asks, IsAskOf, PlaceTried, ParametersTried, IsRouted, syntax_place}
 use Rattle.http_edge.proofs.Lemmas.{handle_same, offset_same}
 use Rattle.fold_client.specs.declared.client.Query.{Query}
 use Rattle.fold_client.specs.Client.{Held, nothing_held}
@@ -28,7 +25,7 @@ use Rattle.fold_client.specs.Target.{target_text, left_alone}
 use Rattle.fold_client.specs.TargetRead.{HasTarget, IsAskedBy, AsksBack, IsAstray, IsWaitingAtStart, TargetTried}
 use Rattle.fold_client.specs.TargetRead as target
 use Rattle.fold_client.proofs.TargetForms.{parameters_of, form_of}
-use Rattle.fold_client.proofs.TargetLaw.{AreRead, are_read, IsFormOf, the_form, target_query, target_is_read_back}
+use Rattle.fold_client.proofs.TargetLaw.{AreRead, are_read, the_form, target_query, target_is_read_back}
 use Rattle.core_law.specs.Situation.{Options, canonical_in, canonical_of, query_identity, placed}
 use Rattle.core_law.specs.Laws.{get_of, IsRead, IsFirst}
 use Rattle.core_law.proofs.Lists.{some_same}
@@ -174,10 +171,10 @@ routed_within tables text ask routed =
     let form = Refuses (HasBadEscape query) refusals.BadEscape once in
     let known = Refuses (path_of text ≢ served_path) refusals.PathUnknown form in
     (asked_in tables (parse query) ask
-        (past (has_repeated (parse query) ≡ true) refusals.RepeatedParameter tried ask
-        (past (HasBadEscape query) refusals.BadEscape once ask
-        (past (path_of text ≢ served_path) refusals.PathUnknown form ask
-        (past (◌≡◌ {A = Bool} true false) refusals.MethodRefused known ask routed))))).offset.0
+    (past (has_repeated (parse query) ≡ true) refusals.RepeatedParameter tried ask
+    (past (HasBadEscape query) refusals.BadEscape once ask
+    (past (path_of text ≢ served_path) refusals.PathUnknown form ask
+    (past (◌≡◌ {A = Bool} true false) refusals.MethodRefused known ask routed))))).offset.0
 
 routed_some : (tables : List Served) (target : Option (List ℕ)) (ask : Ask) → IsSomeAnd target (λ text. IsRouted tables (get_of text) (Ok ask)) → IsOffset ask.offset
 routed_some tables None ask h = absurd h

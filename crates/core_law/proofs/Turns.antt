@@ -3,8 +3,7 @@ use Rattle.std.proofs.Common.{◌≡◌, ℕ, zero, suc, ◌+◌, Bool, true, fa
 use Rattle.std.specs.Bool.{if◌then◌else◌}
 use Rattle.std.specs.List.{slice_get, AllByRecursion}
 use Rattle.std.specs.Option.{option_map, option_and_then, option_or}
-use Rattle.std.specs.Prelude.{nat_lt, is_none, IsSomeAnd}
-use Rattle.std.specs.FinMap as fin
+use Rattle.std.specs.Prelude.{is_none}
 use Rattle.std.proofs.lemmas.Bool.{and_parts}
 use Rattle.std.proofs.lemmas.List.{append-nil}
 use Rattle.shape_base.specs.declared.ask.Ask.{Ask}
@@ -17,33 +16,32 @@ use Rattle.shape_base.specs.declared.definition.TableDef.{TableDef}
 use Rattle.shape_base.specs.declared.history.History.{History}
 use Rattle.shape_base.specs.declared.registry_event.RegistryEvent.{RegistryEvent}
 use Rattle.shape_base.specs.declared.registry_event.RegistryEvent.TheVariants.{Removed, Redefined}
-use Rattle.shape_base.specs.Tables.{same_text, same_def}
+use Rattle.shape_base.specs.Tables.{same_def}
 use Rattle.shape_base.specs.Snapshot.{Snapshot, definition_in}
 use Rattle.shape_base.specs.Visibility.{Visibility, is_visible}
 use Rattle.shape_base.specs.Shape.{have_truths}
 use Rattle.shape_base.specs.RegistryHistory.{Registration, registrations, live_registrations, had_ready, was_removed, removal_of, is_live, is_starting, live_under, last_lsn, definition_after, catalog_after}
-use Rattle.shape_base.proofs.Lemmas.{Decides-same_text}
 use Rattle.shape_registry.proofs.Catalog.{catalog_placed}
 use Rattle.shape_json.specs.ShapeHistory.{Reader, snapshot_in, Dropped}
 use Rattle.http_edge.specs.declared.error_code.ErrorCode.{ErrorCode}
 use Rattle.http_edge.specs.declared.error_code.ErrorCode.TheVariants as codes
 use Rattle.http_edge.specs.declared.error_code.Detail.TheVariants as details
 use Rattle.http_edge.specs.World.{World, IsGoodWorld}
-use Rattle.http_edge.specs.Lawful.{Asked, Refuses, AsksFor, is_of_snapshot, refusal_to_register, refusal_of_limit, IsLawful}
+use Rattle.http_edge.specs.Lawful.{Asked, Refuses, AsksFor, is_of_snapshot, refusal_to_register, refusal_of_limit}
 use Rattle.core_events.specs.declared.out.StepError.{StepError}
 use Rattle.core_events.specs.declared.out.StepError.TheVariants as errors
 use Rattle.core_events.specs.declared.out.Unfit.TheVariants as unfit
-use Rattle.core_law.specs.Situation.{Options, Shape, Server, shape_at, Role, Reads, Waits, Owns, HasNone, Exchange, Customer, Situation, world_of, known_of, reader_under, reader_for}
+use Rattle.core_law.specs.Situation.{Options, Shape, Server, shape_at, Role, Reads, Waits, Owns, HasNone, Exchange, Situation, world_of, known_of, reader_under, reader_for}
 use Rattle.core_law.specs.Steps.{change_at, heard_at, refused_with, settled_one, settled, dropped, redefined, with_shape_event, with_shape, after_commit, with_exchange, refused_at, with_role, registered_for, opened, asked_first, asked_named, asked_for, exchange_at, request, Fault, LinkFailed, IsBad, TooLarge, code_of, owned_in, owned_by, id_before, stale_by, untrue_by, or_else, refusal_of_snapshot, changed_in, snapshot_ends, started, snapped}
-use Rattle.core_law.specs.Clients.{Out, Gives, Cut, Block, Refetched, Refused, Turn, Goes, Stops, is_unfit, new_reply, given_now, finished, never}
+use Rattle.core_law.specs.Clients.{Out, Turn, Goes, Stops, is_unfit, new_reply, given_now, finished, never}
 use Rattle.core_law.specs.Run.{next_of, outs_of}
 use Rattle.core_law.specs.Laws.{IsTold, IsRightOut}
-use Rattle.core_law.proofs.Server.{Sound, Extends, Better, better_same, better_trans, extends_trans, redefines_some, drops}
+use Rattle.core_law.proofs.Server.{Sound, Extends, Better, better_same, better_trans, redefines_some, drops}
 use Rattle.core_law.proofs.ServerSteps.{HasRoom, registers, commit_better, starts, live_from_starting}
 use Rattle.core_law.proofs.Registrations.{live_registered, registered_now, removed_now, cause_now}
-use Rattle.core_law.proofs.Replies.{HasWait, HasRole, unregistered, unready, snapshot_lawful}
+use Rattle.core_law.proofs.Replies.{HasRole, unregistered, unready, snapshot_lawful}
 use Rattle.core_law.proofs.Targets.{ReadsBack, reads_nothing}
-use Rattle.core_law.proofs.Exchanges.{Fine, FineCustomer, Good, role_on, fine_on, settled_fine, refused_fine}
+use Rattle.core_law.proofs.Exchanges.{Fine, FineCustomer, Good, fine_on, settled_fine, refused_fine}
 
 -- ---- lists
 
@@ -211,7 +209,7 @@ module _ (o : Options) (s : Situation) (outside : Bool) (target : Option (List �
   registered_moved ask (Some reader) e first free room =
       moved_exchange (Routed (AsksFor ask)) o s (with_shape s.server ask reader) (owner ask) (registered_better ask reader (defined ask reader (definition_after o.catalog s.server.registry ask.table) refl e) free room)
       (λ h step z Q told sound on routed. plain_fine Q (with_shape s.server ask reader) (world_of o h step z) (AsksFor ask) (Owns (length s.server.shapes + 1))
-          (record { ask = ask; is = refl; first = first; under = registered_now s.server.registry (length s.server.shapes + 1) ask.identity ask.table (Rattle.shape_base.specs.RegistryHistory.last_id s.server.registry) }) routed)
+      (record { ask = ask; is = refl; first = first; under = registered_now s.server.registry (length s.server.shapes + 1) ask.identity ask.table (Rattle.shape_base.specs.RegistryHistory.last_id s.server.registry) }) routed)
 
   either_none : (a b : Option ErrorCode) → option_or a b ≡ None → b ≡ None
   either_none None b e = e
@@ -228,7 +226,7 @@ module _ (o : Options) (s : Situation) (outside : Bool) (target : Option (List �
   opened_moved : (ask : Ask) (code : Option ErrorCode) → refusal_to_register (known_of o s.server) s.server.registry ask ≡ code → ask.named ≡ Absent → live_under s.server.registry ask.identity ≡ None → Moved (Routed (AsksFor ask)) o s (opened o s (new (AsksFor ask)) ask code)
   opened_moved ask (Some code) why first free = moved_exchange (Routed (AsksFor ask)) o s s.server (refused_at s.server code (new (AsksFor ask))) (better_same o s.server)
       (λ h step z Q told sound on routed. refused_fine Q o s.server (world_of o h step z) code (new (AsksFor ask)) (unregistered o h step s.server z told sound on ask code first free (unready s.server.registry ask.identity free) why)
-          (plain_fine Q s.server (world_of o h step z) (AsksFor ask) Reads tt routed))
+      (plain_fine Q s.server (world_of o h step z) (AsksFor ask) Reads tt routed))
   opened_moved ask None why first free = registered_moved ask (reader_for o s.server.registry ask) refl first free (has_room ask why)
 
   first_moved : (ask : Ask) (n : Option ℕ) → live_under s.server.registry ask.identity ≡ n → ask.named ≡ Absent → Moved (Routed (AsksFor ask)) o s (asked_first o s (new (AsksFor ask)) ask n)
@@ -301,8 +299,8 @@ ends_moved R o s e n code d owned starting own =
           record {
             exchanges = all_changed_at (Fine Q o v w) (refused_at v code) s.exchanges e x.exchange x.there (λ is. refused_fine Q o v w code x.exchange
                 (snapshot_lawful o h step v z told (better.sound now) on x.exchange.asked n code (subst (HasRole v x.exchange.asked) x.owns is.role)
-                    (ap (λ es. was_removed es n) registry ∙ removed_now s.server.registry (more_of d) n causes.SnapshotFailed)
-                    (ap (λ es. option_map (λ r. r.cause) (removal_of es n)) registry ∙ cause_now s.server.registry (more_of d) n causes.SnapshotFailed unremoved) own)
+                (ap (λ es. was_removed es n) registry ∙ removed_now s.server.registry (more_of d) n causes.SnapshotFailed)
+                (ap (λ es. option_map (λ r. r.cause) (removal_of es n)) registry ∙ cause_now s.server.registry (more_of d) n causes.SnapshotFailed unremoved) own)
                 is) m.exchanges;
             customers = m.customers;
           };

@@ -1,5 +1,5 @@
 -- Whole runs: their replies are lawful and fair, and their blocks are right.
-use Rattle.std.proofs.Common.{◌≡◌, ℕ, zero, suc, Bool, true, false, List, [], ◌∷◌, ◌++◌, length, map, refl, subst, lit<, Option, None, Some, IfSome}
+use Rattle.std.proofs.Common.{◌≡◌, ℕ, zero, suc, Bool, true, false, List, [], ◌∷◌, length, map, refl, subst, lit<, Option, None, Some, IfSome}
 use Rattle.std.specs.Bool.{if◌then◌else◌}
 use Rattle.std.specs.List.{slice_get, AllByRecursion}
 use Rattle.std.specs.Prelude.{nat_lt}
@@ -17,7 +17,7 @@ use Rattle.fold_client.specs.declared.client.Query.{Query}
 use Rattle.fold_client.specs.Following.{Heard}
 use Rattle.core_law.specs.Situation.{Options, Shape, Server, shape_at, HasNone, Exchange, Situation, at_start, world_of}
 use Rattle.core_law.specs.Steps.{after_commit, dropped, with_exchange, with_role, exchange_at, request, owned_by}
-use Rattle.core_law.specs.Clients.{Out, Cut, Turn, Goes, Stops, is_unfit, finished, never, has_room}
+use Rattle.core_law.specs.Clients.{Out, Cut, Goes, Stops, is_unfit, finished, never, has_room}
 use Rattle.core_law.specs.Run as run
 use Rattle.core_law.specs.Run.{RequestCame, HeadCut, SnapshotCame, SnapshotEnded, Committed, Remove, Moment, Joined, SendNext, Receive, Watch, is_late_at, join, rounds, turn_of, next_of, outs_of, after, told}
 use Rattle.core_law.specs.Laws.{IsStart, IsRead, IsFirst, IsRoutedEvent, IsTold, IsLawfulExchange, IsFairReply, IsFairExchange, IsRightOut, RepliesAreLawful, RepliesAreFair, Headline}

@@ -1,5 +1,5 @@
 -- The answers of a server are those of the world that its last state tells.
-use Rattle.std.proofs.Common.{◌≡◌, ℕ, zero, suc, ◌≤◌, ◌<◌, Bool, true, false, not, ◌&&◌, ◌||◌, ◌==◌, List, [], ◌∷◌, ◌++◌, length, map, take, drop, refl, sym, ◌∙◌, ap, subst, arith, length-append, Option, None, Some, IfSome}
+use Rattle.std.proofs.Common.{◌≡◌, ℕ, zero, suc, ◌≤◌, ◌<◌, Bool, true, false, not, ◌&&◌, ◌||◌, List, [], ◌∷◌, ◌++◌, length, map, take, drop, refl, sym, ◌∙◌, ap, subst, arith, length-append, Option, None, Some}
 use Rattle.std.specs.Bool.{if◌then◌else◌}
 use Rattle.std.specs.List.{slice_get}
 use Rattle.std.specs.Option.{option_map}
@@ -12,31 +12,28 @@ use Rattle.shape_base.specs.declared.change.Tx.{Tx}
 use Rattle.shape_base.specs.declared.entry.Entry.{Entry}
 use Rattle.shape_base.specs.declared.handle.Handle.{Handle}
 use Rattle.shape_base.specs.declared.history.History.{History}
-use Rattle.shape_base.specs.declared.offset.Offset.{Offset}
 use Rattle.shape_base.specs.declared.offset.Offset.TheVariants.{Start}
 use Rattle.shape_base.specs.declared.registry_event.RegistryEvent.{RegistryEvent}
 use Rattle.shape_base.specs.Tables.{commits_of}
 use Rattle.shape_base.specs.Transactions.{meaning}
 use Rattle.shape_base.specs.Visibility.{Visibility, is_visible}
 use Rattle.shape_base.specs.Snapshot.{Snapshot, is_tx_visible, shows_last}
-use Rattle.shape_base.specs.Shape.{Knows}
 use Rattle.shape_base.specs.Log.{log_of, end_of}
 use Rattle.shape_base.specs.Offsets.{is_before, past}
 use Rattle.shape_base.specs.RegistryHistory.{had_ready, was_removed, was_registered_under, is_live_under, is_live_handle, ready_under, live_under}
 use Rattle.shape_base.proofs.Lemmas.{had_ready-append, drop_alike, take_alike, length_alike}
-use Rattle.shape_json.specs.Page.{Part, page_of}
+use Rattle.shape_json.specs.Page.{page_of}
 use Rattle.shape_json.specs.Answer as answers
 use Rattle.shape_json.specs.Answer.{Answer, Paged, Gone, OffsetAhead, NotYet, Starting, Unregistered, in_run, is_empty, answer_ready, answer_first, answer_named, answer_of, gone}
-use Rattle.shape_json.specs.ShapeHistory.{Reader, taken, snapshot_in, log_after}
+use Rattle.shape_json.specs.ShapeHistory.{Reader, snapshot_in}
 use Rattle.shape_json.proofs.Lemmas.{pages_are_asked}
 use Rattle.shape_json.proofs.LawProofs.{log_is_of}
 use Rattle.http_edge.specs.Schema.{schema_text}
-use Rattle.http_edge.specs.World.{World, Kept, Given, log_kept, log_at, situation, schema_at}
+use Rattle.http_edge.specs.World.{Kept, Given, log_kept, log_at, situation, schema_at}
 use Rattle.http_edge.specs.Lawful.{reply_of}
 use Rattle.core_law.specs.Situation.{Options, Shape, Server, shape_at, log_by, log_of_shape, answers_from, kept_by, kept_of, world_of, known_of}
 use Rattle.core_law.specs.Steps.{id_before, stale_by}
 use Rattle.core_law.specs.Laws.{IsHonestShape, IsTold}
-use Rattle.core_law.proofs.Lists.{place_before}
 use Rattle.core_law.proofs.Server.{Alike, Sound, Extends}
 use Rattle.core_law.proofs.ServerSteps.{id_stays}
 

@@ -1,5 +1,5 @@
 -- What a list of events puts out.
-use Rattle.std.specs.Prelude.{ℕ, ◌+◌, ◌*◌, Bool, true, false, ◌&&◌, nat_lt, nat_le, if◌then◌else◌, List, [], ◌∷◌, ◌++◌, length, map, Option, None, Some, slice_get, is_none}
+use Rattle.std.specs.Prelude.{ℕ, ◌+◌, Bool, true, false, ◌&&◌, nat_lt, nat_le, if◌then◌else◌, List, [], ◌∷◌, ◌++◌, length, map, Option, None, Some, slice_get, is_none}
 use Rattle.shape_base.specs.declared.change.Tx.{Tx}
 use Rattle.shape_base.specs.declared.cause.Cause.TheVariants.{Deleted}
 use Rattle.shape_base.specs.Snapshot.{Snapshot}
@@ -10,7 +10,7 @@ use Rattle.http_edge.specs.declared.error_code.ErrorCode.TheVariants as codes
 use Rattle.core_events.specs.declared.out.Unfit.TheVariants as unfit
 use Rattle.core_events.specs.declared.out.StepError.TheVariants as errors
 use Rattle.fold_client.specs.declared.client.Query.{Query}
-use Rattle.core_law.specs.Situation.{Options, Shape, shape_at, HasNone, Exchange, Customer, Situation}
+use Rattle.core_law.specs.Situation.{Options, Shape, shape_at, HasNone, Exchange, Situation}
 use Rattle.core_law.specs.Steps.{with_exchange, exchange_at, with_role, request, Fault, code_of, owned_by, refusal_of_snapshot, snapshot_ends, snapped, dropped, after_commit}
 use Rattle.core_law.specs.Clients.{Out, Cut, Turn, Goes, Stops, is_unfit, finished, never, has_room, send_by, take_by, watch}
 

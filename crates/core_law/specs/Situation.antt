@@ -1,5 +1,5 @@
 -- The situation of a server and of those who ask it: only what cannot be worked out of the rest.
-use Rattle.std.specs.Prelude.{ℕ, zero, suc, Bool, List, [], ◌∷◌, ◌++◌, Option, None, Some, is_some, unwrap_or, slice_get, Result, Ok, Err}
+use Rattle.std.specs.Prelude.{ℕ, zero, suc, Bool, List, [], Option, None, Some, is_some, unwrap_or, slice_get, Result, Ok, Err}
 use Rattle.std.specs.Option.{option_map, option_and_then}
 use Rattle.shape_base.specs.declared.entry.Entry.{Entry}
 use Rattle.shape_base.specs.declared.change.Tx.{Tx}

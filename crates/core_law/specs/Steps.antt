@@ -1,11 +1,9 @@
 -- What one event does to the server and to the exchanges.
-use Rattle.std.specs.Prelude.{ℕ, zero, suc, ◌+◌, ◌-◌, Bool, true, false, not, ◌&&◌, ◌||◌, ◌==◌, nat_lt, if◌then◌else◌, List, [], ◌∷◌, ◌++◌, length, map, Option, None, Some, slice_get, is_none, is_some}
-use Rattle.std.specs.Option.{option_map, option_and_then, option_or}
+use Rattle.std.specs.Prelude.{ℕ, zero, suc, ◌+◌, Bool, if◌then◌else◌, List, [], ◌∷◌, ◌++◌, length, map, Option, None, Some, slice_get}
+use Rattle.std.specs.Option.{option_map, option_or}
 use Rattle.std.specs.List.{sum}
-use Rattle.shape_base.specs.declared.entry.Entry.{Entry}
 use Rattle.shape_base.specs.declared.change.Tx.{Tx}
 use Rattle.shape_base.specs.declared.definition.TableDef.{TableDef}
-use Rattle.shape_base.specs.declared.limits.Limits.{Limits}
 use Rattle.shape_base.specs.declared.ask.Ask.{Ask}
 use Rattle.shape_base.specs.declared.ask.Named.{Named}
 use Rattle.shape_base.specs.declared.ask.Named.TheVariants.{Absent, Known, Strange}
@@ -17,8 +15,8 @@ use Rattle.shape_base.specs.declared.registry_event.RegistryEvent.TheVariants.{R
 use Rattle.shape_base.specs.Tables.{Own, same_def, changes_of}
 use Rattle.shape_base.specs.Visibility.{Visibility, is_visible}
 use Rattle.shape_base.specs.Snapshot.{Snapshot, definition_in}
-use Rattle.shape_base.specs.Shape.{Knows, stops, is_truncate, have_truths}
-use Rattle.shape_base.specs.RegistryHistory.{was_removed, is_live, is_starting, live_under, last_id}
+use Rattle.shape_base.specs.Shape.{Knows, stops, have_truths}
+use Rattle.shape_base.specs.RegistryHistory.{was_removed, is_live, live_under, last_id}
 use Rattle.shape_json.specs.declared.control.Control.TheVariants.{MustRefetch}
 use Rattle.shape_json.specs.ShapeHistory.{Reader, ShapeEvent, Snapped, Dropped, ShapeState, bytes_of, drop_of, state_after}
 use Rattle.shape_json.specs.ShapeHistory as shapes
@@ -32,7 +30,7 @@ use Rattle.http_edge.specs.Refusals.{refusal}
 use Rattle.http_edge.specs.Lawful.{Asked, Refuses, AsksFor, control_of, reply_of, refusal_to_register}
 use Rattle.fold_client.specs.declared.body.Body.{Body}
 use Rattle.fold_client.specs.Following.{Heard}
-use Rattle.core_law.specs.Situation.{Options, Shape, Server, shape_at, Role, Reads, Waits, Owns, HasNone, Exchange, Situation, answers_from, known_of, reader_for}
+use Rattle.core_law.specs.Situation.{Options, Shape, Server, Role, Reads, Waits, Owns, HasNone, Exchange, Situation, answers_from, known_of, reader_for}
 
 -- ---- lists
 
