@@ -9,6 +9,9 @@
 //! | `fronts BYTES` | how many fronts of the bytes, themselves among them, are answered in each way when they are read as a head |
 //! | `get TARGET` | what a request with this target asks for, of five served tables: the table's place, its handle, its offset, whether it waits, its cursor, its columns and its identity; or why it asks for nothing |
 //! | `post TARGET` | the same of a request whose method is another |
+//! | `page NAMED WORD CURSOR` | the reply that is a page of one entry, `current` or `closed`, to a request with that cursor that names a `handle`, a `strange` one or `none`: its length, and its text |
+//! | `conflict N` | the conflict that names the handle of that number, or `none`: its length, and its text |
+//! | `next N` | the cursor after this one |
 //! | `refuse WORD ..` | the reply that refuses with this word and numbers: its length, and its text |
 //! | `close WORD ..` | the same, behind which the connection is closed |
 //!
@@ -17,6 +20,7 @@
 
 mod codes;
 mod heads;
+mod pages;
 mod printing;
 mod targets;
 
@@ -24,6 +28,7 @@ use cases::{Answers, answer_lines, bytes_of, cut};
 use codes::code_of;
 use heads::{fronts_line, head_line};
 use http_edge::{ReplyError, read_reply, refusal_reply};
+use pages::{conflict_line, cursor_line, page_line};
 use printing::{reply_line, written_line};
 use shape_base::OutOfMemory;
 use std::alloc::Global;
@@ -90,6 +95,9 @@ impl Answers for EdgeCases {
             "fronts" => fronts_line(alloc, rest)?,
             "get" => target_line(alloc, rest, true)?,
             "post" => target_line(alloc, rest, false)?,
+            "page" => page_line(alloc, rest)?,
+            "conflict" => conflict_line(alloc, rest)?,
+            "next" => cursor_line(alloc, rest)?,
             "refuse" => refusal_line(alloc, rest, false)?,
             "close" => refusal_line(alloc, rest, true)?,
             _ => format!(in alloc; "no such line")?,
