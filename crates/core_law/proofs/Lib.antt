@@ -12,3 +12,4 @@ pub mod Shapes
 pub mod Turns
 pub mod Blocks
 pub mod Whole
+pub mod Worked

@@ -90,16 +90,16 @@ asks_of tables q c ask good routed = let is = read_back tables q c ask good rout
 
 -- ---- two clients with one target
 
-abbrev params : Query → Held → List Pair
+abbrev pub params : Query → Held → List Pair
 params q c = parameters_of q c
 
-reads : (q : Query) (c : Held) → AreRead q.table (offset_text c.offset) q.columns q.clause (option_map handle_text c.handle) c.cursor (params q c)
+pub reads : (q : Query) (c : Held) → AreRead q.table (offset_text c.offset) q.columns q.clause (option_map handle_text c.handle) c.cursor (params q c)
 reads q c = are_read q.table (offset_text c.offset) q.columns q.clause (option_map handle_text c.handle) (option_map handle_text (left_alone c.handle c.left)) c.cursor
 
-query_is : (q : Query) (c : Held) → query_of (target_text q c) ≡ form_of q c
+pub query_is : (q : Query) (c : Held) → query_of (target_text q c) ≡ form_of q c
 query_is q c = target_query (form_of q c)
 
-parsed_is : (q : Query) (c : Held) → HasTarget q c → parse (query_of (target_text q c)) ≡ params q c
+pub parsed_is : (q : Query) (c : Held) → HasTarget q c → parse (query_of (target_text q c)) ≡ params q c
 parsed_is q c good = ap parse (query_is q c) ∙ (the_form q c good).parsed
 
 handles_same : (a b : Option Handle) → IfSome a IsHandle → IfSome b IsHandle → option_map handle_text a ≡ option_map handle_text b → a ≡ b

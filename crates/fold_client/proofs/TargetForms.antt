@@ -177,7 +177,7 @@ ascii_by : (bs : List ℕ) → list_all (λ b. ltb b 128) bs ≡ true → IsAsci
 ascii_by [] h = IsAscii-nil
 ascii_by (b ∷ bs) h = let p = and_parts (ltb b 128) _ h in let s : b < 128 = grind (arith, nat_tests, p.0) in IsAscii-cons b bs s (ascii_by bs p.1)
 
-word : (bs : List ℕ) → list_all (λ b. ltb b 128) bs ≡ true → IsUtf8 bs
+pub word : (bs : List ℕ) → list_all (λ b. ltb b 128) bs ≡ true → IsUtf8 bs
 word bs h = IsUtf8-from_ascii bs (ascii_by bs h)
 
 run_ascii : (bs : List ℕ) → list_all is_run_byte bs ≡ true → IsAscii bs
