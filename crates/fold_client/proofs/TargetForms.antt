@@ -1,10 +1,10 @@
 -- The text of a client's target, read as a form.
-use Rattle.std.proofs.Common.{◌≡◌, ◌≢◌, ℕ, ◌+◌, ◌/◌, ◌%◌, ◌<◌, ◌^◌, ◌==◌, ◌&&◌, ◌||◌, not, if◌then◌else◌, Bool, true, false, List, [], ◌∷◌, ◌++◌, refl, sym, ap, subst, ◌∙◌, arith, append_assoc, append-nil, Option, None, Some, IfSome, codes, decimal, option_map, inl, inr, ◌⊎◌, cond, ltb}
+use Rattle.std.proofs.Common.{◌≡◌, ℕ, ◌+◌, ◌/◌, ◌%◌, ◌<◌, ◌^◌, ◌==◌, ◌&&◌, ◌||◌, not, if◌then◌else◌, Bool, true, false, List, [], ◌∷◌, ◌++◌, refl, sym, ap, subst, ◌∙◌, arith, append_assoc, append-nil, Option, None, Some, IfSome, codes, decimal, option_map, cond, ltb}
 use Rattle.std.proofs.lemmas.Bool.{and_parts, ne_eqb, cond_both}
-use Rattle.std.proofs.lemmas.Bool.Decides.{nat_tests, Decides-eqb}
+use Rattle.std.proofs.lemmas.Bool.Decides.{nat_tests}
 use Rattle.std.specs.List.{All, list_all}
 use Rattle.std.proofs.lemmas.List.Elements.{All-nil, All-cons, All-append}
-use Rattle.std.specs.Char.{is_digit, digit_value}
+use Rattle.std.specs.Char.{is_digit}
 use Rattle.std.specs.Fmt.{digit_glyph}
 use Rattle.std.specs.Str.{IsUtf8, IsAscii}
 use Rattle.std.proofs.lemmas.Str.{IsUtf8-from_ascii, IsUtf8-append}
@@ -18,7 +18,7 @@ use Rattle.form_urlencoded.proofs.FormLemmas.{byte_serialize-nil, byte_serialize
 use Rattle.shape_base.specs.declared.handle.Handle.{Handle}
 use Rattle.shape_base.specs.declared.offset.Offset.{Offset}
 use Rattle.shape_base.specs.declared.offset.Offset.TheVariants.{Start, At}
-use Rattle.shape_base.specs.Handle.{is_run_byte, is_run, IsHandle, handle_text}
+use Rattle.shape_base.specs.Handle.{is_run_byte, IsHandle, handle_text}
 use Rattle.shape_base.specs.OffsetText.{IsOffset, offset_text}
 use Rattle.http_edge.specs.Parameters.{Pair, is_escaped, has_bad_percent, AreTexts}
 use Rattle.fold_client.specs.declared.client.Query.{Query}

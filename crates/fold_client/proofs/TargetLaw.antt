@@ -1,11 +1,11 @@
 -- The target of a client is read back.
-use Rattle.std.proofs.Common.{◌≡◌, ◌≢◌, ◌⊎◌, inl, inr, ℕ, ◌<◌, ◌^◌, Bool, true, false, List, [], ◌∷◌, ◌++◌, Option, None, Some, IfSome, is_some, unwrap_or, Ok, Err, refl, sym, ap, subst, ◌∙◌, codes, decimal, option_map, not, ◌==◌}
+use Rattle.std.proofs.Common.{◌≡◌, ◌≢◌, inl, inr, ℕ, ◌<◌, ◌^◌, Bool, true, false, List, [], ◌∷◌, ◌++◌, Option, None, Some, IfSome, is_some, unwrap_or, Ok, Err, refl, sym, ap, subst, ◌∙◌, codes, decimal, option_map, not, ◌==◌}
 use Rattle.std.specs.List.{All, list_all}
 use Rattle.std.proofs.lemmas.List.Elements.{All-nil, All-cons}
 use Rattle.std.proofs.lemmas.Bool.{and_parts, false≢true}
 use Rattle.std.proofs.lemmas.Bool.Decides.{Decides-eqb}
 use Rattle.std.proofs.lemmas.Fmt.{decimal_injective}
-use Rattle.form_urlencoded.specs.Form.{split_once, parse, extend_pairs}
+use Rattle.form_urlencoded.specs.Form.{parse}
 use Rattle.form_urlencoded.proofs.FormLemmas.{split_once_before_at, split_once_after_at}
 use Rattle.shape_base.specs.declared.ask.Ask.{Ask}
 use Rattle.shape_base.specs.declared.ask.Named.{Named}
@@ -19,14 +19,13 @@ use Rattle.shape_base.specs.Handle.{IsHandle, handle_text}
 use Rattle.shape_base.specs.OffsetText.{IsOffset, offset_text}
 use Rattle.shape_base.proofs.Lemmas.{Decides-same_text}
 use Rattle.http_edge.specs.declared.request.Request.{Request}
-use Rattle.http_edge.specs.declared.refusal.Refusal.{Refusal}
 use Rattle.http_edge.specs.declared.refusal.Refusal.TheVariants as refusals
 use Rattle.http_edge.specs.Parameters.{Pair, path_of, query_of, has_bad_percent, AreTexts, HasBadEscape, value_under, has_repeated}
-use Rattle.http_edge.specs.Route.{served_path, table_name, table_from, IsNotServed, IsCanonical, HasNoOffset, is_value, is_start, is_live, NeedsHandle, IsLiveAtStart, NamedIs, CursorIs, names_of, IsAskOf, Routed, Refuses, RefusesAt, Asks, syntax_place, ClauseTried, PlaceTried, ParametersTried, IsRouted}
+use Rattle.http_edge.specs.Route.{served_path, table_name, table_from, IsNotServed, IsCanonical, is_value, is_start, is_live, NamedIs, CursorIs, names_of, IsAskOf, Routed, Refuses, RefusesAt, Asks, syntax_place, ClauseTried, PlaceTried, ParametersTried, IsRouted}
 use Rattle.http_edge.proofs.Lemmas.{some_same, handle_same, offset_same, start_apart}
 use Rattle.fold_client.specs.declared.client.Query.{Query}
 use Rattle.fold_client.specs.Client.{Held}
-use Rattle.fold_client.specs.Target.{target_text, left_alone}
+use Rattle.fold_client.specs.Target.{left_alone}
 use Rattle.fold_client.specs.TargetRead.{HasTarget, named_by, IsAskedBy, AsksBack, IsAstray, IsWaitingAtStart, TargetTried, TargetIsReadBack}
 use Rattle.fold_client.proofs.TargetForms.{parameters, parameters_of, form_of, form_is, form_escapes, form_parsed, are_texts}
 

@@ -1,5 +1,5 @@
 -- What a server reads in the target of a client's next request.
-use Rattle.std.specs.Prelude.{◌≡◌, ◌≢◌, ◌⊎◌, ℕ, ◌<◌, ◌^◌, Bool, true, List, Option, None, Some, IfSome, is_some, unwrap_or, Ok, Err}
+use Rattle.std.specs.Prelude.{◌≡◌, ◌≢◌, ◌⊎◌, ◌<◌, ◌^◌, true, List, Option, None, Some, IfSome, is_some, unwrap_or, Ok, Err}
 use Rattle.std.specs.Str.{IsUtf8}
 use Rattle.shape_base.specs.declared.ask.Ask.{Ask}
 use Rattle.shape_base.specs.declared.ask.Named.{Named}

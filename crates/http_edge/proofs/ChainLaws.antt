@@ -1,5 +1,5 @@
 -- The lines of a head from the lines one after another.
-use Rattle.std.proofs.Common.{◌≡◌, ℕ, Bool, List, Option, Some, None, ◌++◌, ◌∙◌, ap, refl, sym, option_map, option_and_then, codes}
+use Rattle.std.proofs.Common.{◌≡◌, ℕ, Bool, List, Option, Some, None, ◌++◌, ◌∙◌, ap, refl, sym, codes}
 use Rattle.http_edge.specs.ReplyLines.{value_of, value_if, fixed_in, optional_in, flags_in, lines_in, fixed_text, Fixed, Optional}
 use Rattle.http_edge.specs.ReplyText.{line}
 

@@ -1,9 +1,9 @@
 -- Lines that end in CR LF.
-use Rattle.std.proofs.Common.{◌≡◌, ◌≢◌, ℕ, Bool, true, false, List, [], ◌∷◌, ◌++◌, Option, Some, None, IfSome, refl, sym, ap, ◌∙◌, subst, option_map, option_and_then, ◌==◌, arith, append_assoc, codes}
+use Rattle.std.proofs.Common.{◌≡◌, ℕ, Bool, true, false, List, [], ◌∷◌, ◌++◌, Option, Some, None, IfSome, refl, sym, ap, ◌∙◌, option_map, arith, append_assoc, codes}
 use Rattle.std.proofs.lemmas.Bool.Decides.{nat_tests}
 use Rattle.shape_base.specs.Decimal.{LacksByte, IsSplit}
-use Rattle.http_edge.specs.ReplyLines.{behind, to_end, value_of, value_if, flag_of, flags_in, flag_text, fixed_text, optional_text, flags_text, lines_text, Fixed, Optional, Lines, fixed_in, optional_in, lines_in}
-use Rattle.http_edge.specs.ReplyText.{crlf, line, line_if}
+use Rattle.http_edge.specs.ReplyLines.{behind, to_end, value_of, value_if, flag_of, flags_in, fixed_text, optional_text, flags_text, lines_text, Fixed, Optional, Lines, fixed_in, optional_in, lines_in}
+use Rattle.http_edge.specs.ReplyText.{line, line_if}
 use Rattle.http_edge.proofs.ChainLaws.{fixed_made, optional_made, lines_made}
 
 -- ---- fronts

@@ -1,13 +1,13 @@
 -- Names that commas join, cut at the first comma.
-use Rattle.std.proofs.Common.{◌≡◌, ◌≢◌, ℕ, ◌+◌, ◌<◌, ◌==◌, if◌then◌else◌, Bool, true, false, List, [], ◌∷◌, ◌++◌, length, length-append, take, drop, get_or, refl, sym, ap, subst, ◌∙◌, arith, Option, Some, None, option_map, append_assoc, IfSome}
+use Rattle.std.proofs.Common.{◌≡◌, ◌≢◌, ℕ, ◌+◌, ◌<◌, if◌then◌else◌, Bool, List, [], ◌∷◌, ◌++◌, length, length-append, get_or, refl, sym, ap, subst, ◌∙◌, arith, Option, Some, None, IfSome}
 use Rattle.std.proofs.Math.Seq.{take-append_seam, drop-append-add, get_or-append_seam}
 use Rattle.std.proofs.lemmas.Bool.{ne_eqb}
-use Rattle.std.specs.Str.{IsUtf8, IsAscii}
+use Rattle.std.specs.Str.{IsUtf8}
 use Rattle.std.proofs.lemmas.Str.{IsUtf8-from_ascii, IsUtf8-append, IsUtf8-take, IsUtf8-drop, IsCharBoundary-at_seam, IsCharBoundary-after_ascii}
 use Rattle.std.proofs.lemmas.Str.Ascii.{IsAscii-nil, IsAscii-cons}
 use Rattle.form_urlencoded.specs.Form.{split, onto_first}
 use Rattle.shape_base.specs.Decimal.{LacksByte, IsSplit}
-use Rattle.http_edge.specs.Tried.{pieces_of, IsCut}
+use Rattle.http_edge.specs.Tried.{IsCut}
 
 split_other : (b : ℕ) (text : List ℕ) → b ≢ 44 → split 44 (b ∷ text) ≡ onto_first b (split 44 text)
 unfolding split

@@ -1,5 +1,5 @@
 -- The pairs of a form, decoded one after the other.
-use Rattle.std.proofs.Common.{◌≡◌, ◌⊎◌, ◌==◌, ◌||◌, ◌&&◌, not, Bool, true, false, refl, ℕ, ◌<◌, List, [], ◌∷◌, ◌++◌, map, sym, ap, ◌∙◌, subst, inl, inr, append_assoc, arith}
+use Rattle.std.proofs.Common.{◌≡◌, ◌⊎◌, true, ℕ, ◌<◌, List, [], ◌∷◌, ◌++◌, map, sym, ap, ◌∙◌, subst, inl, inr, append_assoc, arith}
 use Rattle.std.specs.List.{All, list_all}
 use Rattle.std.proofs.lemmas.List.Elements.{All-nil, All-cons}
 use Rattle.std.proofs.lemmas.Bool.{and_parts}
@@ -7,9 +7,9 @@ use Rattle.std.proofs.lemmas.Bool.Decides.{nat_tests}
 use Rattle.std.specs.Str.{IsUtf8, IsAscii}
 use Rattle.std.proofs.lemmas.Str.Ascii.{IsAscii-nil, IsAscii-cons}
 use Rattle.std.proofs.lemmas.Str.{IsUtf8-from_ascii}
-use Rattle.form_urlencoded.specs.Form.{decode, parse, raw_pairs, IsPlain}
+use Rattle.form_urlencoded.specs.Form.{decode, parse, IsPlain}
 use Rattle.form_urlencoded.proofs.FormLemmas.{decode_plain}
-use Rattle.http_edge.specs.Parameters.{Pair, AreTexts, decoded, stands_for_itself, piece_text, pair_of, pairs_of}
+use Rattle.http_edge.specs.Parameters.{Pair, AreTexts, decoded, stands_for_itself, pair_of, pairs_of}
 use Rattle.http_edge.specs.declared.parameters.Parameter.{Parameter}
 use Rattle.std.proofs.lemmas.List.{map-append}
 use Rattle.http_edge.specs.declared.refusal.Refusal.{Refusal}

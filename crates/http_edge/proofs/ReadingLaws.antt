@@ -1,5 +1,5 @@
 -- Heads and bodies, read back.
-use Rattle.std.proofs.Common.{◌≡◌, ℕ, ◌+◌, ◌-◌, length-append, length-take, ◌<◌, ◌≤◌, ◌^◌, Bool, true, false, ◌||◌, is_some, List, [], ◌∷◌, ◌++◌, length, take, drop, Option, Some, None, IfSome, refl, sym, ap, subst, ◌∙◌, arith, append_assoc, option_map, codes, decimal, ◌==◌, if◌then◌else◌}
+use Rattle.std.proofs.Common.{◌≡◌, ℕ, ◌+◌, ◌-◌, length-append, length-take, ◌<◌, ◌≤◌, ◌^◌, Bool, true, false, ◌||◌, is_some, List, [], ◌∷◌, ◌++◌, length, take, drop, Option, Some, None, refl, sym, ap, subst, ◌∙◌, arith, append_assoc, option_map, codes, decimal, ◌==◌, if◌then◌else◌}
 use Rattle.std.proofs.lemmas.List.{take-append-drop}
 use Rattle.std.proofs.lemmas.Fmt.{decimal_injective}
 use Rattle.std.specs.Str.{IsUtf8}
@@ -7,8 +7,8 @@ use Rattle.shape_base.specs.declared.reply.Reply.{Reply}
 use Rattle.shape_base.specs.Handle.{handle_text}
 use Rattle.shape_base.specs.OffsetText.{offset_text}
 use Rattle.http_edge.specs.declared.reply_head.ReplyHead.{ReplyHead}
-use Rattle.http_edge.specs.ReplyText.{crlf, line, line_if, status_text, cache_text, allow_line, close_line, IsReplyHead, head_text, head_of, IsReply}
-use Rattle.http_edge.specs.ReplyLines.{behind, flag_text, fixed_text, optional_text, flags_text, lines_text, lines_in, lines_of, Fixed, Optional, Lines}
+use Rattle.http_edge.specs.ReplyText.{crlf, line, line_if, status_text, cache_text, allow_line, close_line, IsReplyHead, head_text, head_of}
+use Rattle.http_edge.specs.ReplyLines.{behind, flag_text, optional_text, flags_text, lines_text, lines_in, lines_of, Lines}
 use Rattle.http_edge.specs.ReplyValues.{AreLinesOf}
 use Rattle.http_edge.specs.ReplyAnswer.{has_end, Begins, HasNoReply, IsRead}
 use Rattle.http_edge.proofs.LineLaws.{lines_read, line_at}

@@ -1,5 +1,5 @@
 -- Refusals of the steps of routing, and what the steps read together.
-use Rattle.std.proofs.Common.{◌≡◌, ◌⊎◌, ◌≢◌, ℕ, ◌<◌, Bool, true, false, ◌&&◌, List, [], ◌∷◌, Option, Some, None, IfSome, Result, Ok, Err, refl, sym, ap, subst, ◌∙◌, inl, inr, arith, codes, option_map, if◌then◌else◌}
+use Rattle.std.proofs.Common.{◌≡◌, ◌⊎◌, ℕ, Bool, true, false, List, [], ◌∷◌, Option, Some, None, IfSome, Result, Ok, Err, refl, sym, ap, subst, ◌∙◌, inl, inr, codes, if◌then◌else◌}
 use Rattle.std.proofs.lemmas.Bool.{and_parts}
 use Rattle.std.specs.Str.{IsUtf8}
 use Rattle.form_urlencoded.specs.Form.{parse}
@@ -21,7 +21,7 @@ use Rattle.http_edge.specs.declared.request.Request.{Request}
 use Rattle.http_edge.specs.declared.refusal.Refusal.{Refusal}
 use Rattle.http_edge.specs.declared.refusal.Refusal.TheVariants as refusals
 use Rattle.http_edge.specs.Parameters.{Pair, path_of, query_of, has_bad_percent, AreTexts, HasBadEscape, value_under, has_repeated}
-use Rattle.http_edge.specs.Route.{served_path, table_name, is_of_name, table_from, IsNotServed, IsTooLong, place_in, syntax_place, IsTextOf, IsCanonical, HasNoOffset, NeedsHandle, IsLiveAtStart, IsAskOf, Routed, Refuses, RefusesAt, Asks, RequestTried, FormTried, TableTried, ClauseTried, PlaceTried, ParametersTried, IsRouted}
+use Rattle.http_edge.specs.Route.{served_path, table_name, table_from, IsNotServed, IsTooLong, place_in, syntax_place, IsTextOf, IsCanonical, NeedsHandle, IsLiveAtStart, IsAskOf, Routed, RefusesAt, Asks, RequestTried, FormTried, TableTried, ClauseTried, PlaceTried, ParametersTried, IsRouted}
 use Rattle.http_edge.specs.Tried.{Never, IsTable, IsRest, of_parse, IsSyntaxRefusal}
 
 -- ---- a refusal of a step is one of the whole

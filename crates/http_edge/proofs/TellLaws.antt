@@ -1,5 +1,5 @@
 -- Two heads with one text are one head.
-use Rattle.std.proofs.Common.{◌≡◌, ◌≢◌, ℕ, ◌+◌, ◌<◌, ◌≤◌, ◌^◌, Bool, true, false, List, [], ◌∷◌, ◌++◌, length, take, drop, Option, Some, None, IfSome, Result, Ok, Err, ◌⊎◌, inl, inr, refl, sym, ap, subst, ◌∙◌, arith, append_assoc, option_map, codes, decimal, ◌==◌, length-append}
+use Rattle.std.proofs.Common.{◌≡◌, ℕ, ◌<◌, ◌^◌, Bool, true, false, List, [], ◌∷◌, ◌++◌, length, take, drop, Option, Some, None, IfSome, Ok, Err, inl, inr, refl, sym, ap, subst, ◌∙◌, arith, append_assoc, option_map, decimal, length-append}
 use Rattle.std.proofs.lemmas.Fmt.{decimal_injective, decimal_is_IsNumeral}
 use Rattle.std.proofs.Math.Seq.{take-append_seam, drop-append_seam}
 use Rattle.std.specs.Char.{digit_value}
@@ -12,14 +12,12 @@ use Rattle.shape_base.specs.Decimal.{LacksByte}
 use Rattle.shape_base.specs.Handle.{IsHandle, handle_text}
 use Rattle.shape_base.specs.OffsetText.{IsOffset, offset_text}
 use Rattle.http_edge.specs.declared.reply_head.ReplyHead.{ReplyHead}
-use Rattle.http_edge.specs.declared.reply_error.ReplyError.{ReplyError}
 use Rattle.http_edge.specs.declared.reply_error.ReplyError.TheVariants as errors
-use Rattle.http_edge.specs.ReplyText.{status_text, cache_text, IsReplyHead, IsReply, head_of, head_text, reply_text}
-use Rattle.http_edge.specs.ReplyLines.{behind, lines_in, lines_of, lines_text, Lines}
+use Rattle.http_edge.specs.ReplyText.{IsReplyHead, IsReply, head_of, head_text, reply_text}
+use Rattle.http_edge.specs.ReplyLines.{lines_of, lines_text, Lines}
 use Rattle.http_edge.specs.ReplyValues.{status_in}
-use Rattle.http_edge.specs.ReplyAnswer.{has_end, Begins, IsRead, IsReplyAnswer}
+use Rattle.http_edge.specs.ReplyAnswer.{has_end, Begins}
 use Rattle.http_edge.specs.TextLaws.{ReplyTextsTell, ReplyIsReadBack}
-use Rattle.http_edge.proofs.LineLaws.{behind_front}
 use Rattle.http_edge.proofs.ValueLaws.{status_read, lacks_digits, age_same}
 use Rattle.http_edge.proofs.ReadingLaws.{begins_lines, same_lines, head_lines, lines_end}
 

@@ -3,7 +3,7 @@ use Rattle.std.proofs.Common.{◌≡◌, ◌≢◌, ℕ, ◌<◌, ◌≤◌, ◌
 use Rattle.std.proofs.lemmas.Bool.{and_parts}
 use Rattle.std.proofs.lemmas.Bool.Decides.{nat_tests, Decides-eqb}
 use Rattle.std.proofs.lemmas.Fmt.{decimal_is_IsNumeral, decimal_injective, decimal_step, decimal_digit}
-use Rattle.std.specs.List.{list_all, AllByRecursion}
+use Rattle.std.specs.List.{list_all}
 use Rattle.std.specs.Char.{digit_value}
 use Rattle.std.specs.Str.{IsUtf8, IsAscii}
 use Rattle.std.specs.Str.Parse.{AllDigits}
@@ -14,14 +14,14 @@ use Rattle.shape_base.specs.declared.offset.Offset.{Offset}
 use Rattle.shape_base.specs.declared.offset.Offset.TheVariants.{Start, At}
 use Rattle.shape_base.specs.Decimal.{LacksByte}
 use Rattle.shape_base.specs.Tables.{same_text}
-use Rattle.shape_base.specs.Handle.{is_run_byte, is_run, IsHandle, handle_text}
+use Rattle.shape_base.specs.Handle.{is_run_byte, IsHandle, handle_text}
 use Rattle.shape_base.specs.OffsetText.{IsOffset, offset_text}
 use Rattle.shape_base.proofs.Lemmas.{Decides-same_text}
 use Rattle.http_edge.specs.declared.reply_head.ReplyHead.{ReplyHead}
-use Rattle.http_edge.specs.Status.{is_status, statuses, phrase}
+use Rattle.http_edge.specs.Status.{is_status, phrase}
 use Rattle.http_edge.specs.ReplyText.{status_text, cache_text, is_visible, IsReplyHead}
 use Rattle.http_edge.specs.ReplyLines.{behind, Fixed, Optional, Lines, lines_of}
-use Rattle.http_edge.specs.ReplyValues.{status_in, late_status_in, fixed_of, optional_of, AreFixedValues, AreOptionalValues, AreLinesOf}
+use Rattle.http_edge.specs.ReplyValues.{status_in, late_status_in, AreFixedValues, AreOptionalValues, AreLinesOf}
 use Rattle.http_edge.proofs.LineLaws.{behind_front, AreFixed, AreOptional}
 use Rattle.http_edge.proofs.WritingLaws.{each_status, status_is_code}
 

@@ -1,7 +1,7 @@
 -- Lines that are added part by part, and the statuses of replies.
-use Rattle.std.proofs.Common.{◌≡◌, ℕ, Bool, true, false, List, [], ◌∷◌, ◌++◌, ◌<◌, ◌≤◌, ◌||◌, ◌==◌, refl, sym, subst, ap, ◌∙◌, arith, append_assoc}
+use Rattle.std.proofs.Common.{◌≡◌, ℕ, Bool, true, false, List, [], ◌∷◌, ◌++◌, ◌||◌, ◌==◌, refl, subst, ap, ◌∙◌, arith, append_assoc}
 use Rattle.std.specs.List.{AllByRecursion, list_any}
-use Rattle.std.proofs.lemmas.Bool.Decides.{nat_tests, Decides-eqb}
+use Rattle.std.proofs.lemmas.Bool.Decides.{Decides-eqb}
 use Rattle.http.specs.StatusCode.{IsStatusCode}
 use Rattle.http_edge.specs.Status.{statuses, is_status}
 use Rattle.http_edge.specs.ReplyText.{line, crlf}

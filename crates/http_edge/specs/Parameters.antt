@@ -1,6 +1,6 @@
 -- The target of a request (RFC 9112, section 3.2): its path, and its query as a web form (URL Standard, section 5).
 use Rattle.std.specs.Prelude.{◌≡◌, ℕ, ◌⊎◌, Bool, true, false, ◌&&◌, ◌||◌, not, ◌==◌, nat_lt, if◌then◌else◌, List, [], ◌∷◌, map, Option, Some, None, codes}
-use Rattle.std.specs.List.{list_any, list_all}
+use Rattle.std.specs.List.{list_any}
 use Rattle.std.specs.Str.{IsUtf8}
 use Rattle.std.specs.Char.{is_digit}
 use Rattle.form_urlencoded.specs.Form.{split_once, decode, parse}

@@ -1,6 +1,6 @@
 -- Refusals as replies: their status, and their body, a JSON object (RFC 8259) whose members stand in byte order of their names.
-use Rattle.std.specs.Prelude.{ℕ, List, [], ◌∷◌, Some, None, codes}
-use Rattle.serde_json.specs.Data.{Data, string, number, unsigned, object, Members, no_members, member}
+use Rattle.std.specs.Prelude.{ℕ, List, None, codes}
+use Rattle.serde_json.specs.Data.{string, number, unsigned, object, Members, no_members, member}
 use Rattle.serde_json.specs.Written.{compact_text}
 use Rattle.shape_base.specs.declared.reply.Reply.{Reply}
 use Rattle.http_edge.specs.declared.error_code.ErrorCode.{ErrorCode}

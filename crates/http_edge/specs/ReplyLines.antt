@@ -1,9 +1,9 @@
 -- The lines of a reply's head, read from the front of bytes, before their values are looked at.
-use Rattle.std.specs.Prelude.{◌≡◌, ℕ, Bool, true, false, ◌==◌, if◌then◌else◌, List, [], ◌∷◌, ◌++◌, Option, Some, None, codes, option_map, option_and_then, decimal}
+use Rattle.std.specs.Prelude.{ℕ, Bool, true, false, ◌==◌, if◌then◌else◌, List, [], ◌∷◌, ◌++◌, Option, Some, None, codes, option_map, option_and_then, decimal}
 use Rattle.shape_base.specs.Handle.{handle_text}
 use Rattle.shape_base.specs.OffsetText.{offset_text}
 use Rattle.http_edge.specs.declared.reply_head.ReplyHead.{ReplyHead}
-use Rattle.http_edge.specs.ReplyText.{crlf, line, line_if, status_text, cache_text, close_line}
+use Rattle.http_edge.specs.ReplyText.{crlf, line, line_if, status_text, cache_text}
 
 -- what stands behind a front, where the bytes begin with it
 unfoldable pub behind : List ℕ → List ℕ → Option (List ℕ)

@@ -1,5 +1,5 @@
 -- What contracts see of the parts of a head that borrow its bytes.
-use Rattle.std.specs.Prelude.{ℕ, Bool, List, Option, option_map}
+use Rattle.std.specs.Prelude.{ℕ, List, Option, option_map}
 use Rattle.std.specs.Borrow.{Bor}
 use Rattle.http_edge.specs.declared.reply_lines.FixedLines.{FixedLines}
 use Rattle.http_edge.specs.declared.reply_lines.OptionalLines.{OptionalLines}

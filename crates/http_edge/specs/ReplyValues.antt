@@ -1,5 +1,5 @@
 -- The values of the lines of a reply's head.
-use Rattle.std.specs.Prelude.{◌≡◌, ℕ, Bool, true, false, if◌then◌else◌, List, [], ◌∷◌, ◌++◌, Option, Some, None, IfSome, codes, option_map, decimal, ◌<◌, ◌^◌}
+use Rattle.std.specs.Prelude.{◌≡◌, ℕ, true, if◌then◌else◌, List, Option, Some, None, IfSome, codes, option_map, decimal, ◌<◌, ◌^◌}
 use Rattle.std.specs.List.{list_all}
 use Rattle.shape_base.specs.declared.handle.Handle.{Handle}
 use Rattle.shape_base.specs.declared.offset.Offset.{Offset}

@@ -1,5 +1,5 @@
 -- What a request asks for: each refusal in its order, and otherwise a part of one table.
-use Rattle.std.specs.Prelude.{◌≡◌, ◌≢◌, ℕ, ◌+◌, ◌<◌, ◌^◌, ◌⊎◌, Bool, true, false, ◌&&◌, ◌==◌, if◌then◌else◌, List, [], ◌∷◌, length, Option, Some, None, IfSome, Result, Ok, Err, codes, decimal, option_map}
+use Rattle.std.specs.Prelude.{◌≡◌, ◌≢◌, ℕ, ◌+◌, ◌<◌, ◌^◌, ◌⊎◌, Bool, true, false, ◌&&◌, ◌==◌, if◌then◌else◌, List, [], ◌∷◌, length, Option, Some, None, Result, Ok, Err, codes, decimal, option_map}
 use Rattle.std.specs.List.{list_any}
 use Rattle.form_urlencoded.specs.Form.{split_once, split, parse}
 use Rattle.shape_base.specs.declared.ask.Ask.{Ask}

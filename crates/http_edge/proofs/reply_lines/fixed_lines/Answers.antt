@@ -1,4 +1,3 @@
-use Rattle.std.proofs.Common.{◌≡◌}
 use Rattle.http_edge.proofs.ChainLaws.{fixed_made, fixed_whole}
 use Rattle.http_edge.proofs.reply_lines.fixed_lines.Goals as goal
 

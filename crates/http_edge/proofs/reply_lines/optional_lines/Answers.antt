@@ -1,4 +1,4 @@
-use Rattle.std.proofs.Common.{◌≡◌, option_map, arith}
+use Rattle.std.proofs.Common.{option_map, arith}
 use Rattle.std.proofs.lemmas.Grind.{common_steps}
 use Rattle.http_edge.specs.ReplySeen.{seen}
 use Rattle.http_edge.proofs.ChainLaws.{optional_made, optional_none}

@@ -1,4 +1,4 @@
-use Rattle.std.proofs.Common.{◌≡◌, sym, ◌∙◌, refl, ap, decimal}
+use Rattle.std.proofs.Common.{sym, ◌∙◌, refl, ap, decimal}
 use Rattle.http_edge.proofs.ValueLaws.{age_behind, age_digits, age_number, age_text, no_store}
 use Rattle.http_edge.proofs.reply_values.age_in.Goals as goal
 

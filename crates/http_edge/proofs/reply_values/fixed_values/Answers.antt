@@ -1,4 +1,4 @@
-use Rattle.std.proofs.Common.{◌≡◌, sym, ◌∙◌, refl}
+use Rattle.std.proofs.Common.{sym, ◌∙◌, refl}
 use Rattle.http_edge.specs.ReplySeen.{seen_fixed}
 use Rattle.http_edge.proofs.ValueLaws.{status_refused, kind_refused, length_refused, age_refused, fixed_values_read}
 use Rattle.http_edge.proofs.reply_values.fixed_values.Goals as goal

@@ -1,5 +1,5 @@
 use Rattle.http_edge.specs.ReplySeen.{seen_optional}
-use Rattle.http_edge.proofs.ValueLaws.{handle_refused, offset_refused, schema_refused, cursor_refused, optional_values_read}
+use Rattle.http_edge.proofs.ValueLaws.{handle_refused}
 use Rattle.http_edge.proofs.reply_values.optional_values.Goals as goal
 
 pub returns-in-Err-clause-refused : goal.returns-in-Err-clause-refused

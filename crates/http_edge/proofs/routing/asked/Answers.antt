@@ -1,7 +1,6 @@
-use Rattle.std.proofs.Common.{option_map, codes, inr, subst}
+use Rattle.std.proofs.Common.{option_map, codes, inr}
 use Rattle.http_edge.specs.ReplySeen.{seen}
 use Rattle.http_edge.specs.Parameters.{pairs_of}
-use Rattle.http_edge.specs.Route.{IsCanonical}
 use Rattle.http_edge.proofs.RouteLaws.{value_utf8, asks, is_ask, clause_read}
 use Rattle.http_edge.proofs.routing.asked.Goals as goal
 

@@ -1,4 +1,4 @@
-use Rattle.std.proofs.Common.{sym, ap, ◌∙◌}
+use Rattle.std.proofs.Common.{ap, ◌∙◌}
 use Rattle.http_edge.specs.Parameters.{pairs_of}
 use Rattle.http_edge.proofs.RouteLaws.{answers, form_answer}
 use Rattle.http_edge.proofs.routing.route.Goals as goal

@@ -1,7 +1,5 @@
-use Rattle.std.proofs.Common.{◌≡◌, Some, None, sym, ap, ◌∙◌, option_map, arith}
-use Rattle.http_edge.specs.ReplyLines.{to_end}
-use Rattle.http_edge.specs.ReplySeen.{seen}
-use Rattle.http_edge.proofs.LineLaws.{split_to_end, to_end_lacks}
+use Rattle.std.proofs.Common.{arith}
+use Rattle.http_edge.proofs.LineLaws.{split_to_end}
 use Rattle.http_edge.proofs.scanning.to_end.Goals as goal
 
 pub returns-in_err-rest : goal.returns-in_err-rest

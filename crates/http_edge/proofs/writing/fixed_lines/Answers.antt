@@ -1,4 +1,3 @@
-use Rattle.std.proofs.Common.{◌≡◌}
 use Rattle.http_edge.proofs.WritingLaws.{four_lines}
 use Rattle.http_edge.proofs.writing.fixed_lines.Goals as goal
 
