@@ -13,3 +13,4 @@ pub mod Turns
 pub mod Blocks
 pub mod Whole
 pub mod Worked
+pub mod Staying

@@ -3,7 +3,7 @@
 //! There is no machine here: a situation, what one event does to it, and laws over whole lists of events.
 #![tactic(auto)]
 
-ghost use Rattle.core_law.specs.Laws.{RepliesAreLawful, RepliesAreFair, AnsweredAtOnce, Headline};
+ghost use Rattle.core_law.specs.Laws.{RepliesAreLawful, RepliesAreFair, RepliesStay, AnsweredAtOnce, Headline};
 
 /// Each reply given is lawful.
 pub fn replies_are_lawful()
@@ -13,6 +13,11 @@ pub fn replies_are_lawful()
 /// Each reply given is fair, and its body says what was written.
 pub fn replies_are_fair()
     ensures { RepliesAreFair }
+{}
+
+/// A reply that was given stays as it is, whatever comes later.
+pub fn replies_stay()
+    ensures { RepliesStay }
 {}
 
 /// After each event all exchanges that can be answered are answered.
