@@ -14,3 +14,5 @@ pub mod Blocks
 pub mod Whole
 pub mod Worked
 pub mod Staying
+pub mod Serving
+pub mod Dropping

@@ -63,11 +63,11 @@ none_pick : {A : Type 0} (p : A → Bool) (x : A) (xs : List A) (b : Bool) → (
 none_pick p x xs true e more = cc
 none_pick p x xs false e more = more e
 
-none_found : {A : Type 0} (p : A → Bool) (xs : List A) → list_any p xs ≡ false → find p xs ≡ None
+pub none_found : {A : Type 0} (p : A → Bool) (xs : List A) → list_any p xs ≡ false → find p xs ≡ None
 none_found p [] h = refl
 none_found p (x ∷ xs) h = none_pick p x xs (p x) h (none_found p xs)
 
-abbrev cause_in : Option Removal → Option Cause
+abbrev pub cause_in : Option Removal → Option Cause
 cause_in found = option_map (λ (r : Removal). r.cause) found
 
 -- its cause is the one with which it was removed first

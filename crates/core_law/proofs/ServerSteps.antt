@@ -35,7 +35,7 @@ at_stays : (xs ys : List Shape) (n : ℕ) (x : Shape) → shape_at xs n ≡ Some
 at_stays xs ys zero x h = cc
 at_stays xs ys (suc i) x h = place_stays xs ys i x h
 
-at_one_more : (xs : List Shape) (y : Shape) (n : ℕ) (x : Shape) → shape_at (xs ++ y ∷ []) n ≡ Some x → (shape_at xs n ≡ Some x) ⊎ ((n ≡ length xs + 1) × (y ≡ x))
+pub at_one_more : (xs : List Shape) (y : Shape) (n : ℕ) (x : Shape) → shape_at (xs ++ y ∷ []) n ≡ Some x → (shape_at xs n ≡ Some x) ⊎ ((n ≡ length xs + 1) × (y ≡ x))
 at_one_more xs y zero x h = cc
 at_one_more xs y (suc i) x h = elim (one_more xs y i x h) [ inl e ↦ inl e | inr e ↦ inr ((let p = e.0 in omega (arith, p)), e.1) ]
 
@@ -165,7 +165,7 @@ received_forth o es tx n front (y ∷ xs) (suc j) x h = let e : (n + 1) + j ≡ 
     subst (λ m. ReceivesOne es tx m (slice_get (took_from o es tx (n + 1) (front + bytes_kept o (took_one es n tx (front + all_bytes o xs) y)) xs) j) x) e
     (received_forth o es tx (n + 1) (front + bytes_kept o (took_one es n tx (front + all_bytes o xs) y)) xs j x h)
 
-at_received_back : (o : Options) (es : List RegistryEvent) (tx : Tx) (xs : List Shape) (n : ℕ) (y : Shape) → shape_at (took_from o es tx 1 0 xs) n ≡ Some y → ReceivedOne es tx n (shape_at xs n) y
+pub at_received_back : (o : Options) (es : List RegistryEvent) (tx : Tx) (xs : List Shape) (n : ℕ) (y : Shape) → shape_at (took_from o es tx 1 0 xs) n ≡ Some y → ReceivedOne es tx n (shape_at xs n) y
 at_received_back o es tx xs zero y h = cc
 at_received_back o es tx xs (suc j) y h = let e : 1 + j ≡ suc j = omega arith in subst (λ n. ReceivedOne es tx n (slice_get xs j) y) e (received_back o es tx 1 0 xs j y h)
 

@@ -106,7 +106,7 @@ ran Q o h step z s (e ∷ es) end told_of sound world now routed good =
     let rest = ran Q o h step z next es end told_of sound world (ok.better.sound now) (λ q. (routed q).1) kept in
     record { good = rest.good; right = λ q. all_both (IsRightOut w) (map {B = Out × Situation} (λ out. (out, next)) (outs_of (turn_of o s e))) (told o next es) (ok.right h step z Q told_of sound world now on (λ q. (routed q).0) q good) (rest.right q) }
 
-sound_start : (o : Options) → IsStart o → Sound o at_start.server
+pub sound_start : (o : Options) → IsStart o → Sound o at_start.server
 sound_start o start = record { start = start; legal = tt; counted = refl; few = lit< tt; shapes = λ n x h. none n x h; ready = λ n h. cc; named = λ i n h. cc }
   where
     none : {P : Type 0} (n : ℕ) (x : Shape) → shape_at [] n ≡ Some x → P

@@ -1,6 +1,5 @@
 -- One run that meets every premise: an aged reply taken after a newer one, a truncation that drops number 1, a conflict, and number 2 of the same identity, whose snapshot comes after a commit that waits for it.
-use Rattle.std.proofs.Common.{◌≡◌, ◌⊎◌, inl, inr, lit≤, ℕ, zero, suc, ◌<◌, ◌≤◌, ◌==◌, Bool, true, false, not, if◌then◌else◌, List, [], ◌∷◌, ◌++◌, length, map, take, refl, sym, ◌∙◌, ap, subst, arith, lit<, Option, None, Some, IfSome, Ok, codes}
-use Rattle.std.specs.Prelude.{IsSomeAnd}
+use Rattle.std.proofs.Common.{◌≡◌, inl, inr, lit≤, ℕ, zero, suc, ◌==◌, true, false, if◌then◌else◌, List, [], ◌∷◌, length, map, take, refl, sym, ◌∙◌, ap, subst, arith, lit<, Option, None, Some, IfSome, Ok, codes}
 use Rattle.std.specs.List.{slice_get, AllByRecursion, IsDistinct}
 use Rattle.std.proofs.lemmas.List.Sorted.{IsPermutation-refl}
 use Rattle.std.specs.Fmt.{digits}
@@ -9,7 +8,6 @@ use Rattle.form_urlencoded.specs.Form.{parse, byte_serialize}
 use Rattle.shape_base.specs.declared.ask.Ask.{Ask}
 use Rattle.shape_base.specs.declared.ask.Named.TheVariants.{Absent, Known}
 use Rattle.shape_base.specs.declared.cause.Cause.TheVariants.{Truncated}
-use Rattle.shape_base.specs.declared.change.Change.{Change}
 use Rattle.shape_base.specs.declared.change.ChangeKind.{ChangeKind}
 use Rattle.shape_base.specs.declared.change.ChangeKind.TheVariants as kinds
 use Rattle.shape_base.specs.declared.change.Tx.{Tx}
@@ -31,26 +29,24 @@ use Rattle.shape_base.specs.Handle.{IsHandle}
 use Rattle.shape_def.specs.Clauses.{truth_under, unread_under}
 use Rattle.shape_json.specs.Reading.{HaveOffsets}
 use Rattle.shape_def.specs.Definition.{knows_for}
-use Rattle.shape_def.specs.Identity.{identity}
 use Rattle.shape_json.specs.Answer.{in_run}
 use Rattle.shape_json.specs.ShapeHistory.{Reader, Snapped, snapshot_in}
 use Rattle.shape_json.specs.ShapeHistory as shape_events
 use Rattle.shape_registry.specs.Registry.{ArePlaced}
 use Rattle.http_edge.specs.Lawful.{AsksFor}
-use Rattle.http_edge.specs.Parameters.{Pair, path_of, query_of, AreTexts, HasBadEscape, value_under, has_repeated, has_bad_percent}
-use Rattle.http_edge.specs.Route.{served_path, is_start, is_live, IsAskOf, NeedsHandle, IsLiveAtStart, ParametersTried, IsRouted}
+use Rattle.http_edge.specs.Parameters.{path_of, query_of, AreTexts, HasBadEscape, has_repeated, has_bad_percent}
+use Rattle.http_edge.specs.Route.{served_path, IsAskOf, ParametersTried, IsRouted}
 use Rattle.fold_client.specs.declared.client.Query.{Query}
 use Rattle.fold_client.specs.Client.{Held, nothing_held}
-use Rattle.fold_client.specs.Following.{Heard}
 use Rattle.fold_client.specs.Target.{target_text}
 use Rattle.fold_client.specs.TargetRead.{HasTarget}
 use Rattle.fold_client.proofs.TargetForms.{word, are_texts}
 use Rattle.fold_client.proofs.TargetLaw.{the_form}
 use Rattle.std.specs.FinMap as fin
-use Rattle.core_law.specs.Situation.{Options, Shape, Server, shape_at, Exchange, Customer, Situation, at_start, world_of}
+use Rattle.core_law.specs.Situation.{Options, Shape, shape_at, Exchange, Situation, at_start, world_of}
 use Rattle.core_law.specs.Clients.{Out, Gives, Cut, Block, Refetched, Refused}
 use Rattle.core_law.specs.Run.{Event, RequestCame, SnapshotCame, Committed, Moment, Joined, SendNext, Receive, after, run_of, told}
-use Rattle.core_law.specs.Laws.{IsStart, get_of, IsRead, IsFirst, IsRoutedEvent, IsHonestShape, IsTold, IsRightOut}
+use Rattle.core_law.specs.Laws.{IsStart, get_of, IsRead, IsRoutedEvent, IsHonestShape, IsTold, IsRightOut}
 use Rattle.core_law.proofs.Lists.{some_same}
 use Rattle.core_law.proofs.Targets.{params, parsed_is, reads, query_is}
 use Rattle.core_law.proofs.Whole.{headline}

@@ -127,7 +127,7 @@ AnsweredAtOnce = (o : Options) (events : List Event) → AreSettled o (after o a
 
 -- A number is removed exactly where the events of its shape drop it, and for the cause that they say.
 abbrev pub DropsExactly : Type 0
-DropsExactly = (o : Options) (events : List Event) (number : ℕ) (x : Shape) → shape_at (after o at_start events).server.shapes number ≡ Some x
+DropsExactly = (o : Options) (events : List Event) → IsStart o → (number : ℕ) (x : Shape) → shape_at (after o at_start events).server.shapes number ≡ Some x
     → option_map (λ r. r.cause) (removal_of (after o at_start events).server.registry number) ≡ drop_of x.reader o.limits x.events
 
 -- ---- blocks

@@ -3,7 +3,7 @@
 //! There is no machine here: a situation, what one event does to it, and laws over whole lists of events.
 #![tactic(auto)]
 
-ghost use Rattle.core_law.specs.Laws.{RepliesAreLawful, RepliesAreFair, RepliesStay, AnsweredAtOnce, Headline};
+ghost use Rattle.core_law.specs.Laws.{RepliesAreLawful, RepliesAreFair, RepliesStay, AnsweredAtOnce, DropsExactly, Headline};
 
 /// Each reply given is lawful.
 pub fn replies_are_lawful()
@@ -23,6 +23,11 @@ pub fn replies_stay()
 /// After each event all exchanges that can be answered are answered.
 pub fn answered_at_once()
     ensures { AnsweredAtOnce }
+{}
+
+/// A number is removed exactly where the events of its shape drop it, and for the cause that they say.
+pub fn drops_exactly()
+    ensures { DropsExactly }
 {}
 
 /// Each block has the rows of the table after the client's reach that the shape of its identity selects.
