@@ -46,10 +46,12 @@ requested_if : (R : Type 0) (o : Options) (s : Situation) (n : ℕ) (c : Custome
     → Moved R o s (if b then request o s false None (Refuses codes.HeadTooLong) false else request o s false (Some (next_target c)) (next_asked c) false)
 requested_if R o s n c true at = let m = request_moved o s false None false (Refuses codes.HeadTooLong) in record {
   better = m.better;
+  roles = m.roles;
   good = λ h step z Q told sound world now on routed g. m.good h step z Q told sound world now on (λ q. reads_nothing None (Refuses codes.HeadTooLong) (λ ask e. cc)) g;
 }
 requested_if R o s n c false at = let m = request_moved o s false (Some (next_target c)) false (next_asked c) in record {
   better = m.better;
+  roles = m.roles;
   good = λ h step z Q told sound world now on routed g. m.good h step z Q told sound world now on (λ q. let is = all_at (FineCustomer o (world_of o h step z)) s.customers n c at (g.customers q) in reads_next o c.query c.asked (held_of c) is.first is.fields) g;
 }
 
@@ -59,6 +61,7 @@ sent_ok R o s n c at =
     let moved = requested_if R o s n c (is_long (next_target c)) at in
     finished_ok R o s (record next { customers = change_at (waits_at (length s.exchanges)) next.customers n }) never (record {
       better = moved.better;
+      roles = moved.roles;
       good = λ h step z Q told sound world now on routed g. let m = moved.good h step z Q told sound world now on routed g in
           record { exchanges = m.exchanges; customers = λ q. all_changed (FineCustomer o (world_of o h step z)) (waits_at (length s.exchanges)) next.customers n (λ x is. record { first = is.first; fair = is.fair; fields = is.fields }) (m.customers q) };
     })
@@ -129,6 +132,7 @@ took_ok R o s n e c x heard at there given address =
     let same : followed start (c.took ++ heard ∷ []) ≡ follow (followed start c.took) heard = followed_one_more start c.took heard in
     record {
       better = better_same o s.server;
+      roles = λ r. r;
       good = λ h step z Q told sound world now on routed g.
           let w = world_of o h step z in
           record {
@@ -182,6 +186,7 @@ joined_turns : (R : Type 0) (o : Options) (s : Situation) (outs : List Out) (nex
 joined_turns R o s outs next (Stops error) first plain then_ok = stops_ok R o s error
 joined_turns R o s outs next (Goes more last) first plain then_ok = record {
   better = better_trans o s.server next.server last.server first.better then_ok.better;
+  roles = λ r. then_ok.roles (first.roles r);
   good = λ h step z Q told sound world now on routed g.
       then_ok.good h step z Q told sound world (first.better.sound now) on routed (first.good h step z Q told sound world now (extends_trans next.server last.server z then_ok.better.on on) routed g);
   right = λ h step z Q told sound world now on routed q g.

@@ -16,3 +16,4 @@ pub mod Worked
 pub mod Staying
 pub mod Serving
 pub mod Dropping
+pub mod Waiting

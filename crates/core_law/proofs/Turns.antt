@@ -26,6 +26,7 @@ use Rattle.shape_json.specs.ShapeHistory.{Reader, snapshot_in, Dropped}
 use Rattle.http_edge.specs.declared.error_code.ErrorCode.{ErrorCode}
 use Rattle.http_edge.specs.declared.error_code.ErrorCode.TheVariants as codes
 use Rattle.http_edge.specs.declared.error_code.Detail.TheVariants as details
+use Rattle.fold_client.specs.Following.{Heard}
 use Rattle.http_edge.specs.World.{World, IsGoodWorld}
 use Rattle.http_edge.specs.Lawful.{Asked, Refuses, AsksFor, is_of_snapshot, refusal_to_register, refusal_of_limit}
 use Rattle.core_events.specs.declared.out.StepError.{StepError}
@@ -39,9 +40,9 @@ use Rattle.core_law.specs.Laws.{IsTold, IsRightOut}
 use Rattle.core_law.proofs.Server.{Sound, Extends, Better, better_same, better_trans, redefines_some, drops}
 use Rattle.core_law.proofs.ServerSteps.{HasRoom, registers, commit_better, starts, live_from_starting}
 use Rattle.core_law.proofs.Registrations.{live_registered, registered_now, removed_now, cause_now}
-use Rattle.core_law.proofs.Replies.{HasRole, unregistered, unready, snapshot_lawful}
+use Rattle.core_law.proofs.Replies.{HasWait, HasRole, unregistered, unready, snapshot_lawful}
 use Rattle.core_law.proofs.Targets.{ReadsBack, reads_nothing}
-use Rattle.core_law.proofs.Exchanges.{Fine, FineCustomer, Good, fine_on, settled_fine, refused_fine}
+use Rattle.core_law.proofs.Exchanges.{Fine, FineCustomer, Good, role_on, fine_on, settled_fine, refused_fine}
 
 -- ---- lists
 
@@ -82,9 +83,14 @@ all_at P (y ∷ xs) (suc i) x e h = all_at P xs i x e h.1
 abbrev pub KeepsGood : Type 0 → Options → Situation → Situation → Type 1
 KeepsGood R o s t = (h : History) (step : ℕ → ℕ) (z : Server) (Q : Type 0) → IsTold o h step z → Sound o z → IsGoodWorld (world_of o h step z) → Sound o s.server → Extends t.server z → (Q → R) → Good Q o (world_of o h step z) s → Good Q o (world_of o h step z) t
 
+-- each exchange's role fits what it asked
+abbrev pub AllRoles : Situation → Type 0
+AllRoles s = AllByRecursion (λ (x : Exchange). HasRole s.server x.asked x.role) s.exchanges
+
 -- a situation moves on; R is what its event owes where events are routed
 pub record Moved (R : Type 0) (o : Options) (s t : Situation) : Type 1 where
   pub better : Better o s.server t.server
+  pub roles : AllRoles s → AllRoles t
   pub good : KeepsGood R o s t
 
 -- what is put out is right
@@ -93,18 +99,19 @@ AreRight w t next = AllByRecursion (IsRightOut w) (map {B = Out × Situation} (�
 
 pub record TurnOk (R : Type 0) (o : Options) (s : Situation) (t : Turn) : Type 1 where
   pub better : Better o s.server (next_of s t).server
+  pub roles : AllRoles s → AllRoles (next_of s t)
   pub good : KeepsGood R o s (next_of s t)
   pub right : (h : History) (step : ℕ → ℕ) (z : Server) (Q : Type 0) → IsTold o h step z → Sound o z → IsGoodWorld (world_of o h step z) → Sound o s.server → Extends (next_of s t).server z → (Q → R) → Q → Good Q o (world_of o h step z) s → AreRight (world_of o h step z) t (next_of s t)
 
 pub moved_not : (R : Type 0) (o : Options) (s : Situation) → Moved R o s s
-moved_not R o s = record { better = better_same o s.server; good = λ h step z Q told sound world now on routed g. g }
+moved_not R o s = record { better = better_same o s.server; roles = λ r. r; good = λ h step z Q told sound world now on routed g. g }
 
 -- nothing is put out, and nothing changes
 pub stays_ok : (R : Type 0) (o : Options) (s : Situation) → TurnOk R o s (Goes [] s)
-stays_ok R o s = record { better = better_same o s.server; good = λ h step z Q told sound world now on routed g. g; right = λ h step z Q told sound world now on routed q g. tt }
+stays_ok R o s = record { better = better_same o s.server; roles = λ r. r; good = λ h step z Q told sound world now on routed g. g; right = λ h step z Q told sound world now on routed q g. tt }
 
 pub stops_ok : (R : Type 0) (o : Options) (s : Situation) (error : StepError) → TurnOk R o s (Stops error)
-stops_ok R o s error = record { better = better_same o s.server; good = λ h step z Q told sound world now on routed g. g; right = λ h step z Q told sound world now on routed q g. tt }
+stops_ok R o s error = record { better = better_same o s.server; roles = λ r. r; good = λ h step z Q told sound world now on routed g. g; right = λ h step z Q told sound world now on routed q g. tt }
 
 -- the same exchanges and clients, over a server that goes on
 same_parts : (Q : Type 0) (o : Options) (w : World) (s t : Situation) → Extends s.server t.server → t.exchanges ≡ s.exchanges → t.customers ≡ s.customers → Good Q o w s → Good Q o w t
@@ -113,12 +120,15 @@ same_parts Q o w s t on exchanges customers g = record {
   customers = λ q. subst (AllByRecursion (FineCustomer o w)) (sym customers) (g.customers q);
 }
 
+roles_on : (s : Situation) (v : Server) → Extends s.server v → AllRoles s → AllByRecursion (λ (x : Exchange). HasRole v x.asked x.role) s.exchanges
+roles_on s v on r = all_to (λ (x : Exchange). HasRole s.server x.asked x.role) (λ (x : Exchange). HasRole v x.asked x.role) s.exchanges (λ x is. role_on s.server v x.asked x.role on is) r
+
 pub moved_server : (R : Type 0) (o : Options) (s : Situation) (v : Server) → Better o s.server v → Moved R o s (record s { server = v })
-moved_server R o s v better = record { better = better; good = λ h step z Q told sound world now on routed g. same_parts Q o (world_of o h step z) s (record s { server = v }) better.on refl refl g }
+moved_server R o s v better = record { better = better; roles = roles_on s v better.on; good = λ h step z Q told sound world now on routed g. same_parts Q o (world_of o h step z) s (record s { server = v }) better.on refl refl g }
 
 -- ---- exchanges are answered
 
-new_right : (w : World) (next : Situation) (i : ℕ) (outside : Bool) (a b : Option Rattle.fold_client.specs.Following.Heard) → AllByRecursion (IsRightOut w) (map (λ out. (out, next)) (new_reply i outside a b))
+new_right : (w : World) (next : Situation) (i : ℕ) (outside : Bool) (a b : Option Heard) → AllByRecursion (IsRightOut w) (map (λ out. (out, next)) (new_reply i outside a b))
 new_right w next i false a b = tt
 new_right w next i true (Some g) b = tt
 new_right w next i true None None = tt
@@ -137,9 +147,14 @@ gives_right w next i (x ∷ xs) [] = tt
 gives_right w next i [] (y ∷ ys) = both_right w next (new_reply i y.outside None y.given) (given_now (i + 1) [] ys) (new_right w next i y.outside None y.given) (gives_right w next (i + 1) [] ys)
 gives_right w next i (x ∷ xs) (y ∷ ys) = both_right w next (new_reply i y.outside x.given y.given) (given_now (i + 1) xs ys) (new_right w next i y.outside x.given y.given) (gives_right w next (i + 1) xs ys)
 
+settled_role : (o : Options) (v : Server) (late : Exchange → Bool) (x : Exchange) (given : Option Heard) → HasRole v x.asked x.role → HasRole v (settled_one o v late x given).asked (settled_one o v late x given).role
+settled_role o v late x None has = has
+settled_role o v late x (Some heard) has = has
+
 pub finished_ok : (R : Type 0) (o : Options) (s t : Situation) (late : Exchange → Bool) → Moved R o s t → TurnOk R o s (finished o late s t)
 finished_ok R o s t late moved = record {
   better = moved.better;
+  roles = λ r. all_mapped (λ (x : Exchange). HasRole t.server x.asked x.role) (λ x. settled_one o t.server late x x.given) t.exchanges (λ x has. settled_role o t.server late x x.given has) (moved.roles r);
   good = λ h step z Q told sound world now on routed g.
       let w = world_of o h step z in
       let m = moved.good h step z Q told sound world now on routed g in record {
@@ -152,10 +167,11 @@ finished_ok R o s t late moved = record {
 -- ---- requests
 
 -- an exchange comes, over a server that goes on
-pub moved_exchange : (R : Type 0) (o : Options) (s : Situation) (v : Server) (x : Exchange) → Better o s.server v
+pub moved_exchange : (R : Type 0) (o : Options) (s : Situation) (v : Server) (x : Exchange) → Better o s.server v → HasRole v x.asked x.role
     → ((h : History) (step : ℕ → ℕ) (z : Server) (Q : Type 0) → IsTold o h step z → Sound o v → Extends v z → (Q → R) → Fine Q o v (world_of o h step z) x) → Moved R o s (with_exchange (record s { server = v }) x)
-moved_exchange R o s v x better fine = record {
+moved_exchange R o s v x better has fine = record {
   better = better;
+  roles = λ r. all_one_more (λ (x : Exchange). HasRole v x.asked x.role) s.exchanges x (roles_on s v better.on r) has;
   good = λ h step z Q told sound world now on routed g.
       let w = world_of o h step z in
       let m = same_parts Q o w s (record s { server = v }) better.on refl refl g in
@@ -173,7 +189,7 @@ module _ (o : Options) (s : Situation) (outside : Bool) (target : Option (List �
   plain_fine Q v w asked role has routed = record { lawful = tt; says = tt; role = has; read = routed; fields = λ q. tt }
 
   plain_moved : (asked : Asked) (role : Role) → HasRole s.server asked role → Moved (Routed asked) o s (with_exchange s (with_role role (new asked)))
-  plain_moved asked role has = moved_exchange (Routed asked) o s s.server (with_role role (new asked)) (better_same o s.server) (λ h step z Q told sound on routed. plain_fine Q s.server (world_of o h step z) asked role has routed)
+  plain_moved asked role has = moved_exchange (Routed asked) o s s.server (with_role role (new asked)) (better_same o s.server) has (λ h step z Q told sound on routed. plain_fine Q s.server (world_of o h step z) asked role has routed)
 
   record Defined (ask : Ask) (reader : Reader) : Type 0 where
     definition : TableDef
@@ -203,13 +219,15 @@ module _ (o : Options) (s : Situation) (outside : Bool) (target : Option (List �
       registers_on : (ask : Ask) (reader : Reader) → Extends s.server (with_shape s.server ask reader)
       registers_on ask reader = Rattle.core_law.proofs.ServerSteps.shape_on s.server ask reader
 
+  owner_role_is : (ask : Ask) (reader : Reader) → ask.named ≡ Absent → HasWait (with_shape s.server ask reader) (AsksFor ask) (length s.server.shapes + 1)
+  owner_role_is ask reader first = record { ask = ask; is = refl; first = first; under = registered_now s.server.registry (length s.server.shapes + 1) ask.identity ask.table (Rattle.shape_base.specs.RegistryHistory.last_id s.server.registry) }
+
   registered_moved : (ask : Ask) (reader : Option Reader) → option_and_then (reader_under o ask) (definition_after o.catalog s.server.registry ask.table) ≡ reader → ask.named ≡ Absent → live_under s.server.registry ask.identity ≡ None → HasRoom o.limits.shapes s.server.registry
       → Moved (Routed (AsksFor ask)) o s (registered_for s (new (AsksFor ask)) ask reader)
   registered_moved ask None e first free room = plain_moved (AsksFor ask) Reads tt
   registered_moved ask (Some reader) e first free room =
-      moved_exchange (Routed (AsksFor ask)) o s (with_shape s.server ask reader) (owner ask) (registered_better ask reader (defined ask reader (definition_after o.catalog s.server.registry ask.table) refl e) free room)
-      (λ h step z Q told sound on routed. plain_fine Q (with_shape s.server ask reader) (world_of o h step z) (AsksFor ask) (Owns (length s.server.shapes + 1))
-      (record { ask = ask; is = refl; first = first; under = registered_now s.server.registry (length s.server.shapes + 1) ask.identity ask.table (Rattle.shape_base.specs.RegistryHistory.last_id s.server.registry) }) routed)
+      moved_exchange (Routed (AsksFor ask)) o s (with_shape s.server ask reader) (owner ask) (registered_better ask reader (defined ask reader (definition_after o.catalog s.server.registry ask.table) refl e) free room) (owner_role_is ask reader first)
+      (λ h step z Q told sound on routed. plain_fine Q (with_shape s.server ask reader) (world_of o h step z) (AsksFor ask) (Owns (length s.server.shapes + 1)) (owner_role_is ask reader first) routed)
 
   either_none : (a b : Option ErrorCode) → option_or a b ≡ None → b ≡ None
   either_none None b e = e
@@ -224,7 +242,7 @@ module _ (o : Options) (s : Situation) (outside : Bool) (target : Option (List �
   has_room ask e = let p = no_limit _ _ _ (either_none _ (refusal_of_limit (known_of o s.server) s.server.registry) e) in record { room = p.0; few = p.1 }
 
   opened_moved : (ask : Ask) (code : Option ErrorCode) → refusal_to_register (known_of o s.server) s.server.registry ask ≡ code → ask.named ≡ Absent → live_under s.server.registry ask.identity ≡ None → Moved (Routed (AsksFor ask)) o s (opened o s (new (AsksFor ask)) ask code)
-  opened_moved ask (Some code) why first free = moved_exchange (Routed (AsksFor ask)) o s s.server (refused_at s.server code (new (AsksFor ask))) (better_same o s.server)
+  opened_moved ask (Some code) why first free = moved_exchange (Routed (AsksFor ask)) o s s.server (refused_at s.server code (new (AsksFor ask))) (better_same o s.server) tt
       (λ h step z Q told sound on routed. refused_fine Q o s.server (world_of o h step z) code (new (AsksFor ask)) (unregistered o h step s.server z told sound on ask code first free (unready s.server.registry ask.identity free) why)
       (plain_fine Q s.server (world_of o h step z) (AsksFor ask) Reads tt routed))
   opened_moved ask None why first free = registered_moved ask (reader_for o s.server.registry ask) refl first free (has_room ask why)
@@ -293,6 +311,7 @@ ends_moved R o s e n code d owned starting own =
     let unremoved = not_true (was_removed s.server.registry n) (and_parts (Rattle.shape_base.specs.RegistryHistory.was_registered s.server.registry n) (not (was_removed s.server.registry n)) live).1 in
     record {
       better = better;
+      roles = λ r. all_changed (λ (y : Exchange). HasRole v y.asked y.role) (refused_at v code) s.exchanges e (λ y is. is) (roles_on s v better.on r);
       good = λ h step z Q told sound world now on routed g.
           let w = world_of o h step z in
           let m = same_parts Q o w s (record s { server = v }) better.on refl refl g in

@@ -25,16 +25,17 @@ use Rattle.core_law.proofs.Server.{Sound, Extends, Better, better_same, better_t
 use Rattle.core_law.proofs.ServerSteps.{commit_better}
 use Rattle.core_law.proofs.Fields.{nothing_fields}
 use Rattle.core_law.proofs.Targets.{ReadsBack, reads_of}
+use Rattle.core_law.proofs.Replies.{HasRole}
 use Rattle.core_law.proofs.Exchanges.{SaysFor, Fine, FineCustomer, Good}
 use Rattle.core_law.proofs.Shapes.{good_world, of_requests}
-use Rattle.core_law.proofs.Turns.{all_one_more, all_both, all_to, Moved, TurnOk, stays_ok, stops_ok, moved_server, finished_ok, request_moved, cut_fine, snap_ok, fail_ok}
+use Rattle.core_law.proofs.Turns.{AllRoles, all_one_more, all_both, all_to, Moved, TurnOk, stays_ok, stops_ok, moved_server, finished_ok, request_moved, cut_fine, snap_ok, fail_ok}
 use Rattle.core_law.proofs.Blocks.{send_ok, take_ok, watch_ok}
 
 -- ---- each event
 
 -- what is owed for one premise is owed for a stronger one
 moved_for : (R S : Type 0) (o : Options) (s t : Situation) → (R → S) → Moved S o s t → Moved R o s t
-moved_for R S o s t f moved = record { better = moved.better; good = λ h step z Q told sound world now on routed g. moved.good h step z Q told sound world now on (λ q. f (routed q)) g }
+moved_for R S o s t f moved = record { better = moved.better; roles = moved.roles; good = λ h step z Q told sound world now on routed g. moved.good h step z Q told sound world now on (λ q. f (routed q)) g }
 
 come_if : (o : Options) (s : Situation) (target : Option (List ℕ)) (asked : Asked) (close b : Bool) → TurnOk (IsRead o target asked) o s (if b then finished o never s (request o s true target asked close) else Stops errors.TooManyExchanges)
 come_if o s target asked close true = finished_ok (IsRead o target asked) o s (request o s true target asked close) never (moved_for (IsRead o target asked) (ReadsBack target asked) o s (request o s true target asked close) (reads_of o target asked) (request_moved o s true target close asked))
@@ -43,6 +44,7 @@ come_if o s target asked close false = stops_ok (IsRead o target asked) o s erro
 cut_if : (R : Type 0) (o : Options) (s : Situation) (b : Bool) → TurnOk R o s (if b then Goes (Cut (length s.exchanges) ∷ []) (with_exchange s (with_role HasNone (exchange_at true None (Refuses codes.BadHead) false s.clock))) else Stops errors.TooManyExchanges)
 cut_if R o s true = record {
   better = better_same o s.server;
+  roles = λ r. all_one_more (λ (x : Exchange). HasRole s.server x.asked x.role) s.exchanges (with_role HasNone (exchange_at true None (Refuses codes.BadHead) false s.clock)) r tt;
   good = λ h step z Q told sound world now on routed g. let w = world_of o h step z in
       record { exchanges = all_one_more (Fine Q o s.server w) s.exchanges (with_role HasNone (exchange_at true None (Refuses codes.BadHead) false s.clock)) g.exchanges (cut_fine o s true None false Q s.server w codes.BadHead); customers = g.customers };
   right = λ h step z Q told sound world now on routed q g. (tt, tt);
@@ -59,11 +61,12 @@ remove_if R o s n false = stays_ok R o s
 
 moment_if : (R : Type 0) (o : Options) (s : Situation) (now : ℕ) (b : Bool) → TurnOk R o s (if b then is_unfit unfit.ClockBack else finished o (is_late_at o now) s (record s { clock = now }))
 moment_if R o s now true = stops_ok R o s (errors.Unfit unfit.ClockBack)
-moment_if R o s now false = finished_ok R o s (record s { clock = now }) (is_late_at o now) (record { better = better_same o s.server; good = λ h step z Q told sound world now on routed g. record { exchanges = g.exchanges; customers = g.customers } })
+moment_if R o s now false = finished_ok R o s (record s { clock = now }) (is_late_at o now) (record { better = better_same o s.server; roles = λ r. r; good = λ h step z Q told sound world now on routed g. record { exchanges = g.exchanges; customers = g.customers } })
 
 joined_ok : (o : Options) (s : Situation) (query : Query) (asked : Asked) → TurnOk (IsFirst o query asked) o s (Goes [] (join s query asked))
 joined_ok o s query asked = record {
   better = better_same o s.server;
+  roles = λ r. r;
   good = λ h step z Q told sound world now on routed g. let w = world_of o h step z in
       record { exchanges = g.exchanges; customers = λ q. all_one_more (FineCustomer o w) s.customers (record { query = query; asked = asked; waiting = None; took = [] }) (g.customers q) (record { first = routed q; fair = tt; fields = nothing_fields }) };
   right = λ h step z Q told sound world now on routed q g. tt;
@@ -87,6 +90,16 @@ turn_ok o s (Watch n) = watch_ok (Unit {0}) o rounds n s
 after_better : (o : Options) (s : Situation) (es : List run.Event) → Better o s.server (after o s es).server
 after_better o s [] = better_same o s.server
 after_better o s (e ∷ es) = better_trans o s.server (next_of s (turn_of o s e)).server _ (turn_ok o s e).better (after_better o (next_of s (turn_of o s e)) es)
+
+pub after_extends : (o : Options) (s : Situation) (es : List run.Event) → Extends s.server (after o s es).server
+after_extends o s es = (after_better o s es).on
+
+roles_all : (o : Options) (s : Situation) (es : List run.Event) → AllRoles s → AllRoles (after o s es)
+roles_all o s [] r = r
+roles_all o s (e ∷ es) r = roles_all o (next_of s (turn_of o s e)) es ((turn_ok o s e).roles r)
+
+pub roles_after : (o : Options) (es : List run.Event) → AllRoles (after o at_start es)
+roles_after o es = roles_all o at_start es tt
 
 abbrev AreRouted : Options → List run.Event → Type 0
 AreRouted o es = AllByRecursion (IsRoutedEvent o) es
@@ -113,7 +126,7 @@ sound_start o start = record { start = start; legal = tt; counted = refl; few = 
     none zero x h = cc
     none (suc n) x h = cc
 
-sound_after : (o : Options) (es : List run.Event) → IsStart o → Sound o (after o at_start es).server
+pub sound_after : (o : Options) (es : List run.Event) → IsStart o → Sound o (after o at_start es).server
 sound_after o es start = (after_better o at_start es).sound (sound_start o start)
 
 whole : (Q : Type 0) (o : Options) (h : History) (step : ℕ → ℕ) (es : List run.Event) → IsStart o → (Q → AreRouted o es) → IsTold o h step (after o at_start es).server → Ran Q o (world_of o h step (after o at_start es).server) at_start es

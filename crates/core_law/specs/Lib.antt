@@ -3,3 +3,4 @@ pub mod Steps
 pub mod Clients
 pub mod Run
 pub mod Laws
+pub mod Waiting

@@ -4,6 +4,7 @@
 #![tactic(auto)]
 
 ghost use Rattle.core_law.specs.Laws.{RepliesAreLawful, RepliesAreFair, RepliesStay, AnsweredAtOnce, DropsExactly, Headline};
+ghost use Rattle.core_law.specs.Waiting.{WaitsForOne};
 
 /// Each reply given is lawful.
 pub fn replies_are_lawful()
@@ -23,6 +24,11 @@ pub fn replies_stay()
 /// After each event all exchanges that can be answered are answered.
 pub fn answered_at_once()
     ensures { AnsweredAtOnce }
+{}
+
+/// An exchange without a reply waits for one number.
+pub fn waits_for_one()
+    ensures { WaitsForOne }
 {}
 
 /// A number is removed exactly where the events of its shape drop it, and for the cause that they say.
