@@ -1,6 +1,6 @@
 -- The ends of logs, and commits behind them.
-use Rattle.std.proofs.Common.{◌≡◌, ℕ, ◌+◌, ◌*◌, ◌<◌, ◌≤◌, Bool, true, false, List, [], ◌∷◌, ◌++◌, map, refl, sym, ◌∙◌, ap, subst, arith, append-nil, Option, None, Some}
-use Rattle.std.specs.Prelude.{unwrap_or}
+use Rattle.std.proofs.Common.{◌≡◌, ℕ, suc, ◌+◌, ◌-◌, ◌*◌, ◌<◌, ◌≤◌, length, Bool, true, false, List, [], ◌∷◌, ◌++◌, map, refl, sym, ◌∙◌, ap, subst, arith, append-nil, Option, None, Some}
+use Rattle.std.specs.Prelude.{unwrap_or, slice_get}
 use Rattle.std.specs.Bool.{if◌then◌else◌}
 use Rattle.std.specs.List.{last_or, list_any, flat_map, AllByRecursion}
 use Rattle.shape_base.specs.declared.offset.Offset.{Offset}
@@ -129,3 +129,11 @@ over_end s v rows txs h =
     let low : lsn_in (end_of start) ≤ 0 = end_at 0 start (At 0 0) (start_at 1 (shown s rows)) (omega arith) in
     let rest = past_end s (unseen v txs) None (end_of start) (unseen_rise v txs 0 h) low in
     subst (λ (o : Offset). lsn_in o ≤ last_of txs) (sym (last_offset-append (At 0 0) start (entries_past s (unseen v txs)))) (omega (arith, rest, unseen_last v txs None h))
+
+-- the last of the commits is the one in the last place
+pub last_tx : (txs : List Tx) (o : Option ℕ) (x : Tx) → slice_get txs (length txs - 1) ≡ Some x → x.lsn ≡ last_from o txs
+last_tx [] o x h = absurd (cc)
+last_tx (y ∷ []) o x h = let e : y ≡ x = cc in ap (λ (t : Tx). t.lsn) (sym e)
+last_tx (y ∷ z ∷ txs) o x h =
+    let next : length (y ∷ z ∷ txs) - 1 ≡ suc (length (z ∷ txs) - 1) = omega arith in
+    last_tx (z ∷ txs) (Some y.lsn) x (subst (λ (n : ℕ). slice_get (y ∷ z ∷ txs) n ≡ Some x) next h)

@@ -57,6 +57,16 @@ impl Commits {
         self.txs.as_slice()
     }
 
+    /// The LSN of the last one; 0 where there is none.
+    pub(crate) fn last(&self) -> u64
+        ensures { result ≡ last_of self.now.txs }
+    {
+        match self.txs.last() {
+            None => 0,
+            Some(tx) => tx.lsn,
+        }
+    }
+
     /// Makes room for one more.
     pub(crate) fn reserve(&mut self) -> Result<(), OutOfMemory>
         ensures spare { OnOk result (1 ≤ self.new.spare) }

@@ -1,5 +1,5 @@
 //! The shape.
-ghost use Rattle.std.specs.Prelude.{◌≡◌, ◌<◌, ℕ, Bool, List, [], ◌∷◌, ◌++◌, Some, None, length, IfOk, IfErr, OnOk, OnErr};
+ghost use Rattle.std.specs.Prelude.{◌≡◌, ◌<◌, ℕ, Bool, true, false, List, [], ◌∷◌, ◌++◌, Some, None, length, IfOk, IfErr, OnOk, OnErr};
 ghost use Rattle.shape_base.specs.declared.cause.Cause.{Cause};
 ghost use Rattle.shape_base.specs.declared.change.Tx.{Tx};
 ghost use Rattle.shape_base.specs.Snapshot.{Snapshot};
@@ -56,6 +56,15 @@ pub struct Shape<T: RowTest> {
     alloc: Global,
 }
 
+fn lsn_of(offset: Offset) -> u64
+    ensures { result ≡ lsn_in offset }
+{
+    match offset {
+        Offset::Start => 0,
+        Offset::At { lsn, pos: _ } => lsn,
+    }
+}
+
 /// What is prepared for a commit, by what a shape keeps.
 fn prepare_kept<T: RowTest>(
     alloc: Global,
@@ -100,6 +109,37 @@ impl<T: RowTest> Shape<T> {
         ensures { result.now ≡ self.now.emitter.test }
     {
         self.emitter.test()
+    }
+
+    /// The limits that it keeps to.
+    pub fn limits(&self) -> Limits
+        ensures { result ≡ self.now.state.limits }
+    {
+        self.state.limits
+    }
+
+    /// Whether it has taken no snapshot: `ready` may be called.
+    pub fn is_unready(&self) -> bool
+        ensures yes { result ≡ true → IsUnready self.now.state.kept }
+        ensures no { result ≡ false → IsUnready self.now.state.kept → ⊥ }
+    {
+        match &self.state.kept {
+            Kept::Waiting { .. } => true,
+            Kept::Logging { .. } => false,
+            Kept::Gone { .. } => true,
+        }
+    }
+
+    /// Whether a commit with that LSN comes after all that it has: `prepare` may be called.
+    pub fn is_later(&self, lsn: u64) -> bool
+        ensures yes { result ≡ true → IsLater self.now.state.kept lsn }
+        ensures no { result ≡ false → IsLater self.now.state.kept lsn → ⊥ }
+    {
+        match &self.state.kept {
+            Kept::Waiting { commits } => commits.last() < lsn,
+            Kept::Logging { logging } => lsn_of(logging.log.end()) < lsn,
+            Kept::Gone { .. } => true,
+        }
     }
 
     /// Takes a log that begins with the rows of a snapshot, and adds the commits that waited from the first on that the snapshot does not show.
