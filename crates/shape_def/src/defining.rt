@@ -60,6 +60,7 @@ fn define(alloc: Global, served: &Served, ask: &Ask, def: &TableDef) -> Result<D
     requires { length def.now.columns < 2 ^ 32 }
     ensures ok { IfOk result (λ made. IsDefined (knows_of made.served made.condition.definition made.key made.selected made.condition.clause) served.now def.now ask.now.columns ask.now.clause) }
     ensures identity { IfOk result (λ made. made.identity ≡ ask.now.identity) }
+    ensures clause { IfOk result (λ made. made.condition.clause ≡ ask.now.clause) }
     ensures err { IfErr result (λ e. IsRefusal (refusal_of served.now def.now ask.now.columns ask.now.clause) e) }
 {
     let keyed = find_key(alloc, served, def)?;
@@ -98,6 +99,7 @@ impl Def {
         ensures ok { IfOk result (λ made. IfSome (slice_get tables.now ask.now.table) (λ served. IsDefined (knows_of made.served made.condition.definition made.key made.selected made.condition.clause) served def.now ask.now.columns ask.now.clause)) }
         ensures knows { IfOk result (λ made. knows_for tables.now ask.now.table def.now ask.now.columns ask.now.clause ≡ Some (knows_of made.served made.condition.definition made.key made.selected made.condition.clause)) }
         ensures identity { IfOk result (λ made. made.identity ≡ ask.now.identity) }
+        ensures clause { IfOk result (λ made. made.condition.clause ≡ ask.now.clause) }
         ensures err { IfErr result (λ e. IfSome (slice_get tables.now ask.now.table) (λ served. IsRefusal (refusal_of served def.now ask.now.columns ask.now.clause) e)) }
     {
         let served = tables.at(u64::from(ask.table));

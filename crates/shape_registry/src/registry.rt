@@ -3,7 +3,7 @@ ghost use Rattle.std.specs.Prelude.{◌≡◌, ℕ, ◌+◌, ◌<◌, [], map, l
 ghost use Rattle.std.specs.Option.{option_map, option_copied, option_copied_mut};
 ghost use Rattle.std.specs.FinMap as fin;
 ghost use Rattle.shape_base.specs.declared.registry_event.RegistryEvent.TheVariants as events;
-ghost use Rattle.shape_base.specs.RegistryHistory.{Stands, is_live, live_numbers, last_id, transactions, definition_after};
+ghost use Rattle.shape_base.specs.RegistryHistory.{Stands, is_live, live_numbers, live_registrations, last_id, transactions, definition_after};
 ghost use Rattle.shape_registry.specs.State.{live_at, standing_in, id_in, lsn_in, found_in, refusal_in, after};
 ghost use Rattle.shape_registry.specs.ByHistory.{standing_after, before_after, found_after, refusal_after};
 ghost use Rattle.shape_registry.specs.Registry.{ByHistory, Adds, ArePlaced, IsRefused};
@@ -97,6 +97,14 @@ impl<K> Registry<K> {
         ensures by_history { ByHistory self.now.state (λ start es. result ≡ length (transactions es)) }
     {
         self.handles.taken()
+    }
+
+    /// How many handles are live.
+    pub fn live(&self) -> u64
+        ensures live { result ≡ length self.now.state.live }
+        ensures by_history { ByHistory self.now.state (λ start es. result ≡ length (live_registrations es)) }
+    {
+        self.handles.live()
     }
 
     /// How many transactions had been taken when the number was given. `None` exactly where it is not live.

@@ -1,0 +1,7 @@
+mod Places
+mod Maps
+mod Sums
+mod Changing
+mod Dropping
+mod Texts
+mod Replies

@@ -1,0 +1,9 @@
+//! The server without exchanges and clients: its registry, the shapes of its live numbers, and what commits, snapshots and requests do to them.
+#![tactic(auto)]
+
+mod answering;
+mod schema;
+mod server;
+
+pub use answering::AnswerError;
+pub use server::Server;
