@@ -1,0 +1,3 @@
+pub mod QueryLaws
+pub mod Standings
+pub mod Takings

@@ -1,0 +1,22 @@
+use Rattle.std.specs.Prelude.{slice_get}
+use Rattle.std.proofs.Common.{◌≡◌, ◌<◌, ◌≤◌, ℕ, List, length, Some, refl, sym, ap, subst, ◌∙◌, arith}
+use Rattle.std.proofs.lemmas.Option.{slice_get_read}
+use Rattle.core_clients.specs.declared.follower.Follower.{Follower}
+use Rattle.std.specs.Option.{option_map}
+use Rattle.core_law.specs.Situation.{next_target}
+use Rattle.core_clients.proofs.Standings.{past_end, of_customer, same_target, no_customer}
+use Rattle.core_clients.proofs.clients.Clients.next_target.Goals as goal
+
+pub returns-in_ok-next_target-in-Some : goal.returns-in_ok-next_target-in-Some
+returns-in_ok-next_target-in-Some c customers h =
+    let v = c.args.self.now.followers.items in
+    let e = c.in-Some.ensures.lookup in
+    let f = c.in-Some.follower.now in
+    let is : slice_get v c.args.client ≡ Some f = subst (λ (fs : List Follower). slice_get fs c.args.client ≡ Some f) c.deref.ensures.value (slice_get_read c.deref.result.now (length c.deref.result.now) c.args.client f refl e.3.0 e.1) in
+    of_customer next_target c.in_ok-next_target-in-Some.field-0 v customers c.args.client f h is (λ x one. c.in_ok-next_target-in-Some.ensures ∙ same_target f x one)
+
+pub returns-in-None : goal.returns-in-None
+returns-in-None c customers h =
+    let v = c.args.self.now.followers.items in
+    let past : length v ≤ c.args.client = subst (λ (fs : List Follower). length fs ≤ c.args.client) c.deref.ensures.value (past_end c.args.client (length c.deref.result.now) c.in-None.ensures.lookup.0) in
+    ap (option_map next_target) (sym (no_customer v customers c.args.client h past))
