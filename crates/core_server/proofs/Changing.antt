@@ -11,7 +11,7 @@ use Rattle.core_law.specs.Situation.{Options, Shape, shape_at, registry_start}
 use Rattle.core_law.specs.Situation as law
 use Rattle.core_law.specs.Steps.{change_shape, all_bytes}
 use Rattle.core_server.specs.declared.server.Server.{Server}
-use Rattle.core_server.specs.Standing.{Kept, IsKept, StandsFor, Stands}
+use Rattle.core_server.specs.Standing.{Kept, IsKept, StandsFor, IsCatalog, Stands}
 use Rattle.core_server.proofs.Places.{shape_here, shape_apart, length_shapes, same_or_not}
 
 -- what the change of one number and its shape leaves as it was
@@ -20,6 +20,7 @@ pub record Changes (o : Options) (v w : law.Server) (s t : Server) (n : ℕ) (f 
   pub limits : t.limits ≡ s.limits
   pub tables : t.tables ≡ s.tables
   pub registry : histories.Stands (registry_start o) w.registry t.registry.state
+  pub catalog : IsCatalog o.tables t.registry.state.catalog
   pub registered : registrations w.registry ≡ registrations v.registry
   pub shapes : w.shapes ≡ change_shape f v.shapes n
   pub removed : (m : ℕ) → (n ≡ m → ⊥) → was_removed w.registry m ≡ was_removed v.registry m
@@ -78,6 +79,7 @@ module _ (o : Options) (v w : law.Server) (s t : Server) (n : ℕ) (f : Shape �
     limits = c.limits ∙ h.limits;
     tables = c.tables ∙ h.tables;
     registry = c.registry;
+    catalog = c.catalog;
     counted = ap length c.registered ∙ h.counted ∙ sym (ap length c.shapes ∙ length_shapes f v.shapes n);
     known = λ m r. some_stays m ∙ h.known m (sym (ap (λ rs. list_any (λ (r : Registration). r.number == m) rs) c.registered) ∙ r);
     shapes = λ m y at. same_or_not n m

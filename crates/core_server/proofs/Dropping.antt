@@ -24,7 +24,7 @@ use Rattle.core_law.specs.Situation.{Options, Shape, shape_at, registry_start}
 use Rattle.core_law.specs.Situation as law
 use Rattle.core_law.specs.Steps.{with_event, change_shape, with_registry, with_shape_event, dropped, bytes_kept, all_bytes}
 use Rattle.core_server.specs.declared.server.Server.{Server}
-use Rattle.core_server.specs.Standing.{Kept, reader_in, IsKept, StandsFor, Stands}
+use Rattle.core_server.specs.Standing.{Kept, reader_in, IsKept, StandsFor, IsCatalog, Stands}
 use Rattle.core_server.proofs.Places.{shape_none}
 use Rattle.core_server.proofs.Maps.{removed_apart}
 use Rattle.core_server.proofs.Sums.{log_bytes_is, no_bytes, bytes_changed}
@@ -142,6 +142,7 @@ module _ (o : Options) (v : law.Server) (s : Server) (n : ℕ) (cause : Cause) (
     limits = refl;
     tables = refl;
     registry = h.registry;
+    catalog = h.catalog;
     registered = refl;
     shapes = refl;
     removed = λ m other. refl;
@@ -164,6 +165,7 @@ pub record Removes (o : Options) (v : law.Server) (s t : Server) (n : ℕ) (caus
   pub limits : t.limits ≡ s.limits
   pub tables : t.tables ≡ s.tables
   pub registry : histories.Stands (registry_start o) (v.registry ++ Removed n cause ∷ []) t.registry.state
+  pub catalog : t.registry.state.catalog ≡ s.registry.state.catalog
   pub kept : t.registry.kept ≡ fin.remove s.registry.kept n
   pub total : t.total ≡ s.total - bytes
 
@@ -178,6 +180,7 @@ module _ (o : Options) (v : law.Server) (s t : Server) (n : ℕ) (cause : Cause)
     limits = c.limits;
     tables = c.tables;
     registry = c.registry;
+    catalog = subst (IsCatalog o.tables) (sym c.catalog) h.catalog;
     registered = part_stays registration_in v.registry (Removed n cause) refl;
     shapes = refl;
     removed = λ m other. removed_apart_from v.registry n m cause other;

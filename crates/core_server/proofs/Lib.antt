@@ -3,5 +3,6 @@ mod Maps
 mod Sums
 mod Changing
 mod Dropping
+mod Redefining
 mod Texts
 mod Replies

@@ -1,5 +1,5 @@
 -- What a server keeps, and the situation for which it stands.
-use Rattle.std.specs.Prelude.{◌≡◌, ℕ, ◌≤◌, ◌<◌, Bool, true, false, List, [], length, Option, None, Some, IfSome, IsSomeAnd, is_some}
+use Rattle.std.specs.Prelude.{◌≡◌, ℕ, ◌≤◌, ◌<◌, Bool, true, false, List, [], length, Option, None, Some, IfSome, IsSomeAnd, is_some, slice_get}
 use Rattle.std.specs.FinMap as fin
 use Rattle.shape_base.specs.declared.definition.TableDef.{TableDef}
 use Rattle.shape_base.specs.declared.served.Served.{Served}
@@ -13,6 +13,7 @@ use Rattle.shape_def.specs.Definition.{knows_of}
 use Rattle.shape_json.specs.ShapeHistory.{Reader, snapshot_in, drop_of}
 use Rattle.shape_json.specs.ShapeHistory as shapes
 use Rattle.shape_def.specs.contracts.defining.DefRowTest.TheImpl.{ghosts}
+use Rattle.shape_registry.specs.Registry.{ArePlaced}
 use Rattle.shape_state.specs.declared.shape.Shape as kept
 use Rattle.shape_state.specs.Standing as shape
 use Rattle.core_law.specs.Situation.{Options, Shape, shape_at, registry_start}
@@ -57,12 +58,23 @@ abbrev pub StandsFor : Options → law.Server → Server → ℕ → Shape → B
 StandsFor o v s number x false = IsSomeAnd (fin.get s.registry.kept number) (IsKept o v number x)
 StandsFor o v s number x true = is_some (drop_of x.reader o.limits x.events) ≡ true
 
+-- a table has fewer than 2^32 columns
+abbrev pub HasFewColumns : TableDef → Type 0
+HasFewColumns d = length d.columns < 4294967296
+
+-- A catalogue of the served tables: each has a definition, which stands in its place, and has fewer than 2^32 columns.
+pub record IsCatalog (tables : List Served) (catalog : List TableDef) : Type 0 where
+  pub served : length catalog ≡ length tables
+  pub placed : ArePlaced catalog
+  pub few : (place : ℕ) → IfSome (slice_get catalog place) HasFewColumns
+
 -- The server stands for a situation: its registry stands for the events, each number that was registered has a shape, which stands for its events, and the sum is that of the bytes of all logs.
 pub record Stands (o : Options) (v : law.Server) (s : Server) : Type 0 where
   pub run : s.run ≡ o.run
   pub limits : s.limits ≡ o.limits
   pub tables : s.tables ≡ o.tables
   pub registry : histories.Stands (registry_start o) v.registry s.registry.state
+  pub catalog : IsCatalog o.tables s.registry.state.catalog
   pub counted : length (registrations v.registry) ≡ length v.shapes
   pub known : (number : ℕ) → was_registered v.registry number ≡ true → is_some (shape_at v.shapes number) ≡ true
   pub shapes : (number : ℕ) (x : Shape) → shape_at v.shapes number ≡ Some x → StandsFor o v s number x (was_removed v.registry number)
@@ -78,6 +90,7 @@ pub record IsSituated (s : Server) : Type 0 where
 abbrev pub Moves : Server → (Options → law.Server → law.Server) → Server → Type 0
 Moves old next new = (o : Options) (v : law.Server) → Stands o v old → Stands o (next o v) new
 
--- the definition's table is one of so many
-abbrev pub IsServed : Option TableDef → ℕ → Type 0
-IsServed definition count = IfSome definition (λ d. d.table < count)
+-- a new definition is of a served table, and has fewer than 2^32 columns
+pub record IsNew (tables : List Served) (d : TableDef) : Type 0 where
+  pub served : d.table < length tables
+  pub few : HasFewColumns d
