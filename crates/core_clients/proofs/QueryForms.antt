@@ -1,5 +1,5 @@
 -- The web form of a query.
-use Rattle.std.proofs.Common.{◌≡◌, ℕ, ◌<◌, Bool, true, false, List, [], ◌∷◌, ◌++◌, refl, sym, ap, ◌∙◌, subst, arith, Option, None, Some, IfSome, codes, ltb}
+use Rattle.std.proofs.Common.{◌≡◌, ℕ, ◌<◌, true, List, [], ◌∷◌, ◌++◌, refl, sym, ap, ◌∙◌, subst, arith, Option, None, Some, IfSome, codes, ltb}
 use Rattle.std.specs.List.{list_all}
 use Rattle.std.specs.Str.{IsUtf8, IsAscii}
 use Rattle.std.proofs.lemmas.Bool.{and_parts}
@@ -11,7 +11,7 @@ use Rattle.http_edge.specs.Parameters.{Pair, AreTexts, has_bad_percent}
 use Rattle.fold_client.specs.declared.client.Query.{Query}
 use Rattle.fold_client.specs.Target.{with_value, query_form}
 use Rattle.fold_client.proofs.TargetForms.{parameter, form_escapes, form_parsed}
-use Rattle.core_clients.specs.QueryForm.{IsQueryOf, IsQueryForm}
+use Rattle.core_clients.specs.QueryForm.{IsQueryOf}
 use Rattle.core_clients.specs.Laws.{HasTexts, QueriesHaveForms}
 
 -- the names and values of a query
