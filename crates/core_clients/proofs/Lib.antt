@@ -1,3 +1,4 @@
 pub mod QueryLaws
+pub mod QueryForms
 pub mod Standings
 pub mod Takings

@@ -1,12 +1,12 @@
 -- Names and values of a query, one after the other.
-use Rattle.std.proofs.Common.{◌≡◌, ◌⊎◌, ◌&&◌, ◌||◌, ℕ, Bool, true, false, if◌then◌else◌, List, [], ◌∷◌, ◌++◌, map, filter, refl, sym, ap, ◌∙◌, subst, inl, inr, Option, None, Some, codes, append_assoc, append-nil}
+use Rattle.std.proofs.Common.{◌≡◌, ◌⊎◌, ◌||◌, ℕ, Bool, true, false, if◌then◌else◌, List, [], ◌∷◌, ◌++◌, map, filter, refl, sym, ap, ◌∙◌, subst, inl, inr, Option, None, Some, codes, append_assoc, append-nil}
 use Rattle.std.specs.List.{list_all}
 use Rattle.std.specs.Str.{IsUtf8}
 use Rattle.std.proofs.lemmas.List.{map-append}
 use Rattle.std.proofs.lemmas.List.Elements.{filter-append}
 use Rattle.std.proofs.lemmas.List.Folds.{list_all-append}
 use Rattle.std.proofs.lemmas.Bool.{and_parts, and_from}
-use Rattle.form_urlencoded.specs.Form.{decode, parse}
+use Rattle.form_urlencoded.specs.Form.{parse}
 use Rattle.shape_base.specs.Tables.{same_text}
 use Rattle.shape_base.proofs.Lemmas.{Decides-same_text}
 use Rattle.http_edge.specs.Parameters.{Pair, AreTexts, decoded, has_bad_percent}

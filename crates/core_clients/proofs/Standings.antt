@@ -1,17 +1,17 @@
 -- Clients and customers, each in its place.
 use Rattle.std.specs.Prelude.{slice_get, slice_set}
 use Rattle.std.proofs.lemmas.Bool.Decides.{nat_tests}
-use Rattle.std.proofs.Common.{◌≡◌, false, nat_lt, ℕ, zero, suc, ◌+◌, ◌<◌, ◌≤◌, List, [], ◌∷◌, ◌++◌, length, refl, sym, ap, ◌∙◌, subst, Option, None, Some, arith}
+use Rattle.std.proofs.Common.{◌≡◌, false, nat_lt, ℕ, zero, suc, ◌≤◌, List, [], ◌∷◌, ◌++◌, length, refl, sym, ap, ◌∙◌, subst, Option, None, Some, arith}
 use Rattle.std.specs.Option.{option_map, option_and_then}
 use Rattle.http_edge.specs.Lawful.{Asked}
 use Rattle.fold_client.specs.declared.client.Query.{Query}
 use Rattle.fold_client.specs.Client.{nothing_held}
 use Rattle.fold_client.specs.Taking.{held_by}
 use Rattle.fold_client.specs.Target.{target_text}
-use Rattle.core_law.specs.Situation.{Customer, held_of, next_target}
+use Rattle.core_law.specs.Situation.{Customer, next_target}
 use Rattle.core_law.specs.Clients.{waits_at}
 use Rattle.core_law.specs.Steps.{change_at}
-use Rattle.fold_client.specs.Following.{Heard, Following, start, follow, followed}
+use Rattle.fold_client.specs.Following.{Heard, Following, follow, followed}
 use Rattle.core_clients.specs.declared.follower.Follower.{Follower}
 use Rattle.core_clients.specs.Standing.{StandsFor, EachStands}
 use Rattle.core_clients.specs.Taking.{IsSpared, EachSpared}

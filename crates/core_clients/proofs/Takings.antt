@@ -1,5 +1,5 @@
 -- A client that takes a reply.
-use Rattle.std.proofs.Common.{◌≡◌, ℕ, Bool, true, false, if◌then◌else◌, List, ◌++◌, ◌∷◌, [], length, ◌≤◌, Result, Ok, Err, OnErr, refl, sym, ap, ◌∙◌, subst, Option, None, Some, is_some, inl, inr, ◌⊎◌}
+use Rattle.std.proofs.Common.{◌≡◌, ℕ, Bool, true, false, if◌then◌else◌, List, length, ◌≤◌, Result, Ok, Err, OnErr, refl, sym, ap, ◌∙◌, subst, Option, None, Some, is_some}
 use Rattle.std.specs.Prelude.{slice_get, slice_set}
 use Rattle.shape_base.specs.declared.offset.Offset.{Offset}
 use Rattle.shape_base.specs.declared.entry.Entry.{Entry}
@@ -8,7 +8,7 @@ use Rattle.shape_base.specs.declared.reply.Reply.{Reply}
 use Rattle.shape_base.specs.Shape.{Map}
 use Rattle.shape_base.specs.Log.{fold_from, first_fault}
 use Rattle.fold_client.specs.declared.body.Body.{Body}
-use Rattle.fold_client.specs.Following.{Heard, follow, followed, start}
+use Rattle.fold_client.specs.Following.{Heard, start}
 use Rattle.fold_client.specs.Taking.{held_by}
 use Rattle.core_law.specs.Situation.{Customer, held_of}
 use Rattle.core_law.specs.Steps.{change_at}
@@ -16,10 +16,10 @@ use Rattle.core_law.specs.Clients.{took_one}
 use Rattle.core_clients.specs.declared.follower.Follower.{Follower}
 use Rattle.core_clients.specs.declared.follower.Received.{Received}
 use Rattle.core_clients.specs.Standing.{StandsFor, EachStands}
-use Rattle.core_clients.specs.Taking.{IsReceived, after_of, IsReceivedBy, IsHeard, SparesOrTook, IsSpared, EachSpared}
+use Rattle.core_clients.specs.Taking.{IsReceived, after_of, IsReceivedBy, IsHeard, SparesOrTook, EachSpared}
 use Rattle.core_clients.specs.Following.{TookIt, LostIt}
 use Rattle.core_clients.proofs.Standings.{followed_last, StandsThere, stands_there, stands_at, stands_changed, each_spared, stands_past, no_customer}
-use Rattle.fold_client.specs.Client.{Held, Outcome, UpToDate, More, Refetch, ServerRefused, BadReply, ForeignHandle, BadFold, After, refused, refetched, fault_at, is_bad, is_current, same_handle, comes_back, with_rows, with_handle, with_parts, take_reply, Says}
+use Rattle.fold_client.specs.Client.{Held, UpToDate, ServerRefused, BadReply, ForeignHandle, After, refused, refetched, fault_at, is_bad, same_handle, comes_back, with_rows, with_handle, with_parts, take_reply, Says}
 
 -- up to date only with a handle
 abbrev pub HasHandle : After → Type 0

@@ -1,5 +1,6 @@
 -- What a client puts out, as the program has it.
-use Rattle.std.specs.Prelude.{◌≡◌, ℕ, List, [], ◌∷◌, map, Some}
+use Rattle.std.specs.Prelude.{◌≡◌, List, [], ◌∷◌, map, Some}
+use Rattle.shape_base.specs.declared.handle.Handle.{Handle}
 use Rattle.fold_client.specs.Rows.{keyed_row}
 use Rattle.core_law.specs.Clients.{Gives, Cut, Block, Refetched, Refused}
 use Rattle.core_law.specs.Clients as law
@@ -10,7 +11,7 @@ use Rattle.core_events.specs.declared.out.Out.TheVariants as outs
 abbrev pub IsOfClient : law.Out → Out → Type 0
 IsOfClient (Gives exchange heard) out = ⊥
 IsOfClient (Cut exchange) out = ⊥
-IsOfClient (Block n handle offset rows) out = (h : _) × ((handle ≡ Some h) × (out ≡ outs.Block n h offset (map keyed_row rows)))
+IsOfClient (Block n handle offset rows) out = (h : Handle) × ((handle ≡ Some h) × (out ≡ outs.Block n h offset (map keyed_row rows)))
 IsOfClient (Refetched n) out = out ≡ outs.Refetched n
 IsOfClient (Refused n status) out = out ≡ outs.Refused n status
 

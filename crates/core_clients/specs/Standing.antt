@@ -1,5 +1,5 @@
 -- Which clients of the definitions the clients of a program stand for.
-use Rattle.std.specs.Prelude.{◌≡◌, ℕ, zero, suc, List, [], ◌∷◌}
+use Rattle.std.specs.Prelude.{◌≡◌, List, [], ◌∷◌}
 use Rattle.fold_client.specs.Taking.{held_by}
 use Rattle.core_law.specs.Situation.{Customer, held_of}
 use Rattle.core_clients.specs.declared.follower.Follower.{Follower}

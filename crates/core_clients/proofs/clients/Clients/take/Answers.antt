@@ -1,4 +1,4 @@
-use Rattle.std.proofs.Common.{◌≡◌, ◌<◌, ◌≤◌, ℕ, List, length, Some, sym, ap, subst, ◌∙◌, arith}
+use Rattle.std.proofs.Common.{◌<◌, arith}
 use Rattle.std.proofs.lemmas.Option.{slice_get_read}
 use Rattle.core_clients.proofs.Takings.{takes_reply, no_taker, loses_reply, at_error}
 use Rattle.core_clients.proofs.clients.Clients.take.Goals as goal
