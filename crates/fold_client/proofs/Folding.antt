@@ -51,16 +51,6 @@ inserts m k v h = (ap (λ (o : Option (List Cell)). if is_some o then None else 
 pub inserts_not : (m : Map) (k : List ℕ) (v w : List Cell) → fin.get m k ≡ Some w → (fold_op Insert k v m ≡ None) × (fin.insert (fin.insert m k v) k w ≡ m)
 inserts_not m k v w h = (ap (λ (o : Option (List Cell)). if is_some o then None else Some (fin.insert m k v)) h, insert_twice m k v w ∙ insert_same m k w h)
 
-pub updates : (m : Map) (k : List ℕ) (news olds made : List Cell) → fin.get m k ≡ Some olds → made ≡ replaced news olds
-    → (fold_op Update k news m ≡ Some (fin.insert (fin.remove m k) k made)) × (fin.insert (fin.insert (fin.remove m k) k made) k olds ≡ m)
-updates m k news olds made h is = (
-  ap (option_map (λ (x : List Cell). fin.insert m k (replaced news x))) h ∙ ap (λ (x : List Cell). Some (fin.insert m k x)) (sym is) ∙ ap Some (sym (insert_removed m k made)),
-  insert_twice (fin.remove m k) k made olds ∙ insert_removed m k olds ∙ insert_same m k olds h,
-)
-
-pub updates_not : (m : Map) (k : List ℕ) (news : List Cell) → fin.get m k ≡ None → (fold_op Update k news m ≡ None) × (fin.remove m k ≡ m)
-updates_not m k news h = (ap (option_map (λ (x : List Cell). fin.insert m k (replaced news x))) h, remove_none m k h)
-
 pub deletes : (m : Map) (k : List ℕ) (v olds : List Cell) → fin.get m k ≡ Some olds → (fold_op Delete k v m ≡ Some (fin.remove m k)) × (fin.insert (fin.remove m k) k olds ≡ m)
 deletes m k v olds h = (ap (λ (o : Option (List Cell)). if is_some o then Some (fin.remove m k) else None) h, insert_removed m k olds ∙ insert_same m k olds h)
 
@@ -83,15 +73,17 @@ inserted_not m mid new k v v' w o e n is same back =
     let p = inserts_not m k v w (sym e ∙ n) in
     (p.0, back ∙ ap (λ (x : Map). fin.insert x k w) (is ∙ ap (fin.insert m k) same) ∙ p.1)
 
-pub updated : (m mid new : Map) (k k' : List ℕ) (news olds made : List Cell) (o : Row) → o ≡ fin.get m k → o ≡ Some olds → mid ≡ fin.remove m k → made ≡ replaced news olds → new ≡ fin.insert mid k made → k' ≡ k
-    → (fold_op Update k news m ≡ Some new) × (fin.insert new k' olds ≡ m)
-updated m mid new k k' news olds made o e n gone is put key =
-    let p = updates m k news olds made (sym e ∙ n) is in
-    let now : fin.insert (fin.remove m k) k made ≡ new = sym (put ∙ ap (λ (x : Map). fin.insert x k made) gone) in
-    (p.0 ∙ ap Some now, ap (λ (x : Map). fin.insert x k' olds) (sym now) ∙ ap (λ (q : List ℕ). fin.insert (fin.insert (fin.remove m k) k made) q olds) key ∙ p.1)
+pub updated : (m new : Map) (k k' : List ℕ) (news olds made : List Cell) (got stood : Row) → got ≡ fin.get m k → got ≡ Some olds → stood ≡ fin.get m k → made ≡ replaced news olds → new ≡ fin.insert m k made → k' ≡ k
+    → (fold_op Update k news m ≡ Some new) × (restored k' stood new ≡ m)
+updated m new k k' news olds made got stood e n s same is key =
+    let here : fin.get m k ≡ Some olds = sym e ∙ n in (
+      ap (option_map (λ (x : List Cell). fin.insert m k (replaced news x))) here ∙ ap (λ (x : List Cell). Some (fin.insert m k x)) (sym same) ∙ ap Some (sym is),
+      ap (λ (o : Row). restored k' o new) (s ∙ here) ∙ ap (λ (x : Map). fin.insert x k' olds) is ∙ ap (λ (q : List ℕ). fin.insert (fin.insert m k made) q olds) key
+          ∙ insert_twice m k made olds ∙ insert_same m k olds here,
+    )
 
-pub updated_not : (m mid : Map) (k : List ℕ) (news : List Cell) (o : Row) → o ≡ fin.get m k → o ≡ None → mid ≡ fin.remove m k → (fold_op Update k news m ≡ None) × (mid ≡ m)
-updated_not m mid k news o e n gone = let p = updates_not m k news (sym e ∙ n) in (p.0, gone ∙ p.1)
+pub updated_not : (m : Map) (k : List ℕ) (news : List Cell) (got : Row) → got ≡ fin.get m k → got ≡ None → fold_op Update k news m ≡ None
+updated_not m k news got e n = ap (option_map (λ (x : List Cell). fin.insert m k (replaced news x))) (sym e ∙ n)
 
 pub deleted : (m new : Map) (k k' : List ℕ) (v olds : List Cell) (o : Row) → o ≡ fin.get m k → o ≡ Some olds → new ≡ fin.remove m k → k' ≡ k → (fold_op Delete k v m ≡ Some new) × (fin.insert new k' olds ≡ m)
 deleted m new k k' v olds o e n gone key =

@@ -1,4 +1,5 @@
 pub mod Coded
+pub mod Hashed
 pub mod Rows
 pub mod Client
 pub mod Following

@@ -1,8 +1,10 @@
 //! Rows by their keys, under the entries of a log.
 ghost use Rattle.std.specs.Prelude.{◌≡◌, List, unwrap_or, true, false, Option, Some, None, map, IfOk, OnOk, if◌then◌else◌};
+ghost use Rattle.std.specs.Option.{option_copied};
 ghost use Rattle.std.specs.FinMap as fin;
 ghost use Rattle.shape_base.specs.declared.entry.Cell.{Cell};
 ghost use Rattle.shape_base.specs.Log.{replaced, value_in, fold_op};
+ghost use Rattle.shape_base.specs.Maps.{map_in};
 ghost use Rattle.fold_client.specs.Rows.{keyed_row, restored, undone, IsFolded, Undoes};
 
 use shape_base::{
@@ -10,7 +12,7 @@ use shape_base::{
     are_same_texts,
 };
 use std::alloc::Global;
-use std::collections::BTreeMap;
+use std::collections::{BTreeMap, HashMap};
 use std::marker::Model;
 
 /// An entry that could not be folded: it inserts a key that is there, or updates or deletes one that is not.
@@ -20,23 +22,23 @@ pub struct Fault {
     pub key: Text,
 }
 
-/// Rows by their key texts: a contract sees the map from each key text to the row's cells.
+/// Rows by their key texts, which are found by their hashes: a contract sees the map from each key text to the row's cells.
 #[derive(Drop)]
 pub struct FoldedRows {
     alloc: Global,
-    rows: BTreeMap<Text, Cells>,
+    rows: HashMap<String, Cells>,
 }
 
 impl Model for FoldedRows {
     ghost use Rattle.shape_base.specs.Shape.{Map};
-    ghost use Rattle.shape_base.specs.Maps.{map_in};
     ghost use Rattle.fold_client.specs.Coded.{rows_code};
+    ghost use Rattle.fold_client.specs.Hashed.{rows_in};
 
     ghost Value = { Map };
 
     ghost coded = { rows_code };
 
-    ghost view = { λ r. map_in r.rows };
+    ghost view = { λ r. rows_in r.rows };
 }
 
 /// What stood under a key before an entry was folded.
@@ -79,15 +81,22 @@ impl FoldedRows {
     {
         FoldedRows {
             alloc,
-            rows: BTreeMap::new(alloc),
+            rows: HashMap::new(alloc),
         }
+    }
+
+    /// The cells under a key.
+    fn get(&self, key: &Text) -> Option<&Cells>
+        ensures { option_copied result ≡ fin.get self.now key.now }
+    {
+        self.rows.get(key.as_str())
     }
 
     /// Puts cells under a key. It gives what stood there.
     fn put(&mut self, key: &Text, cells: Cells) -> Result<Option<Cells>, OutOfMemory>
         ensures { IfOk result (λ before. (before ≡ fin.get self.old key.now) × (self.new ≡ fin.insert self.old key.now cells)) }
     {
-        let key = key.copy(self.alloc)?;
+        let key = String::from_str(self.alloc, key.as_str())?;
         Ok(self.rows.insert(key, cells)?)
     }
 
@@ -96,7 +105,7 @@ impl FoldedRows {
         ensures before { result ≡ fin.get self.old key.now }
         ensures after { self.new ≡ fin.remove self.old key.now }
     {
-        self.rows.remove(key)
+        self.rows.remove(key.as_str())
     }
 
     /// Puts back what stood under a key.
@@ -134,15 +143,12 @@ impl FoldedRows {
         ensures { IfOk result (Undoes self.old self.new (fold_op Op.Update entry.now.key entry.now.cells self.old)) }
     {
         let key = entry.key.copy(self.alloc)?;
-        match self.take_out(&entry.key) {
+        match self.get(&entry.key) {
             None => Ok(None),
             Some(before) => {
-                let cells = replaced_cells(self.alloc, &before, &entry.cells)?;
-                let _none = self.put(&entry.key, cells)?;
-                Ok(Some(Undo {
-                    key,
-                    before: Some(before),
-                }))
+                let cells = replaced_cells(self.alloc, before, &entry.cells)?;
+                let stood = self.put(&entry.key, cells)?;
+                Ok(Some(Undo { key, before: stood }))
             }
         }
     }
@@ -202,16 +208,27 @@ impl FoldedRows {
         Ok(None)
     }
 
+    /// Copies of the rows, by their keys in byte order.
+    fn in_order(&self) -> Result<BTreeMap<Text, Cells>, OutOfMemory>
+        ensures { IfOk result (λ rows. map_in rows ≡ self.now) }
+    {
+        let mut ordered = BTreeMap::new(self.alloc);
+        for (key, cells) in &self.rows {
+            let twin = Text::of(self.alloc, key.as_str())?;
+            let copied = cells.copy(self.alloc)?;
+            let _none = ordered.insert(twin, copied)?;
+        }
+        Ok(ordered)
+    }
+
     /// The rows in byte order of their keys, copied.
     pub fn rows(&self) -> Result<KeyedRows, OutOfMemory>
         ensures { IfOk result (λ rows. rows ≡ map keyed_row (fin.entries self.now)) }
     {
         let mut made = KeyedRows::new(self.alloc);
-        for (key, cells) in &self.rows {
-            made.push(KeyedRow {
-                key: key.copy(self.alloc)?,
-                cells: cells.copy(self.alloc)?,
-            })?;
+        let ordered = self.in_order()?;
+        for (key, cells) in ordered {
+            made.push(KeyedRow { key, cells })?;
         }
         Ok(made)
     }
