@@ -14,8 +14,8 @@ use Rattle.std.specs.Cmp.{eq_by_cmp_equiv}
 use Rattle.std.specs.Cmp.Lexicographic.{nat_list_cmp_total}
 use Rattle.std.proofs.lemmas.Map.Text.{is_eq-slice_cmp, hash_map_updates_text}
 use Rattle.shape_base.specs.declared.entry.Cell.{Cell}
-use Rattle.shape_base.specs.Shape.{Keyed, Map}
-use Rattle.shape_base.proofs.Lemmas.{text_cmp, exact, tied, same_from_tied, tied_self}
+use Rattle.shape_base.specs.Shape.{Map}
+use Rattle.shape_base.proofs.Lemmas.{text_cmp, exact, tied, same_from_tied}
 use Rattle.fold_client.specs.Hashed.{texts_of, rows_in}
 
 find_text : {Y : Type 0} (es : List (String Y × List Cell)) (q : List ℕ) → find text_cmp q (texts_of es) ≡ lookup (λ k. bytes_eq q (string_bytes k)) es
