@@ -1,5 +1,5 @@
 -- The rows of a hash map beside the map of the definitions.
-use Rattle.std.proofs.Common.{◌≡◌, ℕ, Bool, true, false, cond, List, [], ◌∷◌, map, refl, sym, ◌∙◌, ap, subst, Option, None, Some, string_bytes}
+use Rattle.std.proofs.Common.{◌≡◌, ℕ, Bool, true, false, cond, List, [], ◌∷◌, refl, sym, ◌∙◌, ap, subst, Option, None, Some, string_bytes}
 use Rattle.std.specs.Option.{option_or}
 use Rattle.std.specs.List.{AllByRecursion, IsDistinct}
 use Rattle.std.specs.Map.{lookup, keys_of}
@@ -14,8 +14,8 @@ use Rattle.std.specs.Cmp.{eq_by_cmp_equiv}
 use Rattle.std.specs.Cmp.Lexicographic.{nat_list_cmp_total}
 use Rattle.std.proofs.lemmas.Map.Text.{is_eq-slice_cmp, hash_map_updates_text}
 use Rattle.shape_base.specs.declared.entry.Cell.{Cell}
-use Rattle.shape_base.specs.Shape.{Keyed, Map}
-use Rattle.shape_base.proofs.Lemmas.{text_cmp, exact, tied, same_from_tied, tied_self}
+use Rattle.shape_base.specs.Shape.{Map}
+use Rattle.shape_base.proofs.Lemmas.{text_cmp, exact, tied, same_from_tied}
 use Rattle.fold_client.specs.Hashed.{texts_of, rows_in}
 
 find_text : {Y : Type 0} (es : List (String Y × List Cell)) (q : List ℕ) → find text_cmp q (texts_of es) ≡ lookup (λ k. bytes_eq q (string_bytes k)) es
