@@ -153,13 +153,13 @@ impl FoldedRows {
     fn delete(&mut self, key: Text, cells: Cells) -> Result<Result<Undo, Text>, OutOfMemory>
         ensures { IfOk result (Undoes self.old self.new (fold_op Op.Delete key cells self.old) key) }
     {
-        match self.take_out(&key) {
-            None => Ok(Err(key)),
-            Some(before) => Ok(Ok(Undo {
-                key,
-                before: Some(before),
-            })),
-        }
+        let Some(before) = self.take_out(&key) else {
+            return Ok(Err(key));
+        };
+        Ok(Ok(Undo {
+            key,
+            before: Some(before),
+        }))
     }
 
     /// Folds one entry, where it finds what it needs; where it does not, its key comes back.
