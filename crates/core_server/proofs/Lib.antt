@@ -6,3 +6,4 @@ mod Dropping
 mod Redefining
 mod Texts
 mod Replies
+mod Registrations

@@ -1,3 +1,4 @@
 pub mod Standing
 pub mod Columns
 pub mod Replies
+pub mod Registers

@@ -2,8 +2,10 @@
 #![tactic(auto)]
 
 mod answering;
+mod registering;
 mod schema;
 mod server;
 
 pub use answering::AnswerError;
+pub use registering::RegisterError;
 pub use server::Server;
