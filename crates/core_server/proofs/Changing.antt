@@ -1,12 +1,11 @@
 -- What a server stands for where one number and its shape change.
-use Rattle.std.proofs.Common.{◌≡◌, ℕ, ◌≤◌, Bool, true, false, ◌==◌, List, length, refl, ap, sym, ◌∙◌, subst, arith, Option, None, Some}
+use Rattle.std.proofs.Common.{◌≡◌, ℕ, ◌≤◌, Bool, true, false, ◌==◌, length, refl, ap, sym, ◌∙◌, subst, arith, Option, None, Some}
 use Rattle.std.specs.Prelude.{is_some, IsSomeAnd}
 use Rattle.std.specs.List.{list_any}
 use Rattle.std.specs.Option.{option_map}
 use Rattle.std.specs.FinMap as fin
 use Rattle.shape_base.specs.RegistryHistory as histories
 use Rattle.shape_base.specs.RegistryHistory.{Registration, registrations, was_registered, was_removed, had_ready}
-use Rattle.shape_json.specs.ShapeHistory.{drop_of}
 use Rattle.core_law.specs.Situation.{Options, Shape, shape_at, registry_start}
 use Rattle.core_law.specs.Situation as law
 use Rattle.core_law.specs.Steps.{change_shape, all_bytes}

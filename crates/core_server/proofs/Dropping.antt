@@ -1,5 +1,5 @@
 -- A number that is dropped from outside.
-use Rattle.std.proofs.Common.{◌≡◌, ℕ, ◌+◌, ◌-◌, ◌≤◌, Bool, true, false, not, ◌&&◌, ◌||◌, ◌==◌, List, [], ◌∷◌, ◌++◌, length, refl, ap, sym, ◌∙◌, subst, arith, Option, None, Some}
+use Rattle.std.proofs.Common.{◌≡◌, ℕ, ◌-◌, Bool, true, false, not, ◌||◌, ◌==◌, List, [], ◌∷◌, ◌++◌, refl, ap, sym, ◌∙◌, subst, arith, Option, None, Some}
 use Rattle.std.specs.Bool.{if◌then◌else◌}
 use Rattle.std.specs.Prelude.{is_some, IsSomeAnd, unwrap_or}
 use Rattle.std.specs.Option.{option_map}
@@ -14,7 +14,7 @@ use Rattle.shape_base.specs.declared.registry_event.RegistryEvent.TheVariants.{R
 use Rattle.shape_base.specs.RegistryHistory as histories
 use Rattle.shape_base.specs.RegistryHistory.{Taken, registration_in, removal_in, ready_in, transaction_in, was_registered, was_removed, had_ready, is_live, last_lsn}
 use Rattle.shape_base.proofs.Lemmas.{was_removed-append}
-use Rattle.shape_json.specs.ShapeHistory.{Reader, ShapeEvent, Dropped, or_else, drop_of, drop_at, state_after}
+use Rattle.shape_json.specs.ShapeHistory.{Reader, ShapeEvent, Dropped, or_else, drop_of, state_after}
 use Rattle.shape_json.proofs.Histories.{drop_next}
 use Rattle.shape_registry.proofs.Growing.{part_stays}
 use Rattle.shape_registry.proofs.Legal.{ready_stays}

@@ -1,5 +1,5 @@
 -- A new definition in the catalogue.
-use Rattle.std.proofs.Common.{◌≡◌, ℕ, zero, suc, ◌<◌, ◌≤◌, ◌==◌, List, [], ◌∷◌, ◌++◌, length, refl, ap, sym, ◌∙◌, subst, arith, Option, None, Some, ◌⊎◌, inl, inr}
+use Rattle.std.proofs.Common.{◌≡◌, ℕ, zero, suc, ◌==◌, List, [], ◌∷◌, ◌++◌, length, refl, ap, sym, ◌∙◌, subst, arith, Option, Some, ◌⊎◌, inl, inr}
 use Rattle.std.specs.Prelude.{IfSome, slice_set}
 use Rattle.std.specs.List.{slice_get, list_any}
 use Rattle.std.specs.FinMap as fin
@@ -16,7 +16,7 @@ use Rattle.core_law.specs.Situation as law
 use Rattle.core_law.specs.Steps.{with_registry}
 use Rattle.core_server.specs.declared.server.Server.{Server}
 use Rattle.core_server.specs.Standing.{StandsFor, HasFewColumns, IsCatalog, IsNew, Stands}
-use Rattle.core_server.proofs.Changing.{Changes, stands_on, stands_changed}
+use Rattle.core_server.proofs.Changing.{stands_on}
 use Rattle.core_server.proofs.Dropping.{same_last}
 
 length_set : {A : Type 0} (xs : List A) (i : ℕ) (x : A) → length (slice_set xs i x) ≡ length xs

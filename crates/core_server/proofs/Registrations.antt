@@ -1,5 +1,5 @@
 -- A shape is registered.
-use Rattle.std.proofs.Common.{◌≡◌, ℕ, zero, suc, ◌+◌, ◌-◌, ◌^◌, ◌≤◌, ◌<◌, Bool, true, false, not, ◌||◌, ◌==◌, List, [], ◌∷◌, ◌++◌, length, refl, ap, sym, ◌∙◌, subst, arith, length-append, Option, None, Some, ◌⊎◌, inl, inr}
+use Rattle.std.proofs.Common.{◌≡◌, ℕ, zero, suc, ◌+◌, ◌-◌, ◌^◌, ◌≤◌, ◌<◌, Bool, true, false, ◌||◌, ◌==◌, List, [], ◌∷◌, ◌++◌, length, refl, ap, sym, ◌∙◌, subst, arith, length-append, Option, None, Some, inl, inr}
 use Rattle.std.specs.Bool.{if◌then◌else◌}
 use Rattle.std.specs.Prelude.{is_some, IfSome, IsSomeAnd, map, sum_by, find}
 use Rattle.std.specs.List.{slice_get}
@@ -25,15 +25,14 @@ use Rattle.shape_def.specs.declared.faults.DefError.{DefError}
 use Rattle.shape_def.specs.declared.faults.DefError.TheVariants as definitions
 use Rattle.shape_def.specs.Clauses.{unread_under}
 use Rattle.shape_def.specs.Definition.{refusal_of, knows_for, IsRefusal, IsDefined}
-use Rattle.shape_json.specs.ShapeHistory.{Reader, drop_of}
+use Rattle.shape_json.specs.ShapeHistory.{Reader}
 use Rattle.shape_registry.specs.declared.refusal.Refusal.{Refusal}
-use Rattle.shape_registry.specs.declared.refusal.Refusal.TheVariants as refusals
 use Rattle.shape_registry.specs.ByHistory.{refusal_under, refusal_after}
 use Rattle.shape_registry.specs.State.{live_as}
 use Rattle.shape_registry.specs.Registry.{IsRefused}
 use Rattle.shape_registry.specs.declared.refusal.RegisterError as numbers
 use Rattle.shape_registry.specs.declared.refusal.RegisterError.TheVariants.{Exists, TooMany, NumbersSpent, OutOfMemory}
-use Rattle.shape_registry.proofs.Growing.{find_of_map, part_stays, part_grows}
+use Rattle.shape_registry.proofs.Growing.{find_of_map, part_grows}
 use Rattle.shape_registry.proofs.Legal.{ready_stays, removed_stays, facts_of, never_registered}
 use Rattle.shape_state.specs.Standing as standing
 use Rattle.http_edge.specs.declared.error_code.ErrorCode.{ErrorCode}
@@ -47,7 +46,7 @@ use Rattle.core_law.proofs.Lists.{place_stays, one_more, last_place}
 use Rattle.core_server.specs.declared.server.Server.{Server}
 use Rattle.core_server.specs.declared.registering.RegisterError.{RegisterError}
 use Rattle.core_server.specs.declared.registering.RegisterError.TheVariants as errors
-use Rattle.core_server.specs.Standing.{Kept, knows_in, reader_of, reader_in, IsKept, StandsFor, IsCatalog, Stands}
+use Rattle.core_server.specs.Standing.{Kept, knows_in, reader_in, IsKept, StandsFor, IsCatalog, Stands}
 use Rattle.core_server.specs.Registers.{definition_refusal, IsDefinedFor, IsRegistered, IsRegisterError, error_of, is_memory}
 use Rattle.core_server.proofs.Maps.{inserted_apart, inserted_here}
 use Rattle.core_server.proofs.Changing.{stands_on}

@@ -28,7 +28,6 @@ use Rattle.shape_registry.specs.ByHistory.{found_number, found_under, found_afte
 use Rattle.shape_registry.proofs.Growing.{find_of_map}
 use Rattle.shape_registry.proofs.Legal.{facts_of}
 use Rattle.shape_registry.proofs.Meanings.{ready_is}
-use Rattle.chunked_log.specs.Chunked.{Carries}
 use Rattle.shape_json.specs.ShapeHistory.{Reader, ShapeEvent, ShapeState, Ready, snapshot_in, drop_of, state_by, state_after, log_after}
 use Rattle.shape_json.specs.ShapeHistory as shapes
 use Rattle.shape_json.specs.Page.{Part, page_of}

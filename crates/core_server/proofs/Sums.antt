@@ -1,12 +1,12 @@
 -- The bytes of all logs.
-use Rattle.std.proofs.Common.{◌≡◌, ℕ, zero, suc, ◌+◌, ◌-◌, ◌≤◌, Bool, true, false, List, [], ◌∷◌, ◌++◌, refl, ap, sym, ◌∙◌, arith, Option, None, Some}
+use Rattle.std.proofs.Common.{◌≡◌, ℕ, zero, suc, ◌+◌, ◌≤◌, true, List, [], ◌∷◌, refl, ap, arith, Option, None, Some}
 use Rattle.std.specs.Prelude.{is_some}
 use Rattle.std.specs.Prelude.{map}
 use Rattle.std.specs.List.{slice_get}
 use Rattle.std.proofs.lemmas.List.Sums.{sum_by-cons}
 use Rattle.shape_base.specs.declared.cause.Cause.{Cause}
 use Rattle.shape_base.specs.Snapshot.{Snapshot}
-use Rattle.shape_json.specs.ShapeHistory.{Reader, ShapeEvent, ShapeState, Starting, Ready, Gone, snapshot_in, drop_of, state_by, state_after}
+use Rattle.shape_json.specs.ShapeHistory.{Reader, ShapeEvent, ShapeState, Starting, Ready, Gone, snapshot_in, drop_of, state_by}
 use Rattle.shape_state.specs.Answers.{log_bytes}
 use Rattle.core_law.specs.Situation.{Options, Shape, shape_at}
 use Rattle.core_law.specs.Steps.{change_at, change_shape, bytes_in, bytes_kept, all_bytes}

@@ -1,5 +1,5 @@
 -- What a server keeps, and the situation for which it stands.
-use Rattle.std.specs.Prelude.{◌≡◌, ℕ, ◌≤◌, ◌<◌, Bool, true, false, List, [], length, Option, None, Some, IfSome, IsSomeAnd, is_some, slice_get}
+use Rattle.std.specs.Prelude.{◌≡◌, ℕ, ◌≤◌, ◌<◌, Bool, true, false, List, [], length, None, Some, IfSome, IsSomeAnd, is_some, slice_get}
 use Rattle.std.specs.FinMap as fin
 use Rattle.shape_base.specs.declared.definition.TableDef.{TableDef}
 use Rattle.shape_base.specs.declared.served.Served.{Served}

@@ -2,6 +2,8 @@
 ghost use Rattle.std.specs.Prelude.{◌≡◌, ℕ, true, Some, IfOk, IfErr, IsUtf8};
 ghost use Rattle.std.specs.Option.{option_map};
 ghost use Rattle.shape_base.specs.RegistryHistory.{had_ready, is_live};
+ghost use Rattle.shape_registry.specs.State.{found_in};
+ghost use Rattle.shape_registry.specs.ByHistory.{found_after};
 ghost use Rattle.shape_json.specs.Page.{Part};
 ghost use Rattle.shape_json.specs.Answer.{in_run, answer_of};
 ghost use Rattle.chunked_log.specs.Chunked.{Carries};
@@ -55,6 +57,14 @@ fn place_of(ask: &Ask) -> (Offset, bool)
 }
 
 impl Server {
+    /// What is found for a request: its handle or the one that is live under its identity, ready or starting; that it names one that is not live; or that none is named and none is live.
+    pub fn lookup(&self, ask: &Ask) -> Found
+        ensures found { result ≡ found_in self.now.registry.state ask.now.identity ask.now.named }
+        ensures by_situation { (o : Options) (v : law.Server) → Stands o v self.now → result ≡ found_after o.run v.registry ask.now.identity ask.now.named }
+    {
+        self.registry.lookup(ask)
+    }
+
     /// The handle of a number of this run.
     fn handle(&self, alloc: Global, number: u64) -> Result<Handle, OutOfMemory>
         ensures { IfOk result (λ handle. handle ≡ in_run self.now.run number) }

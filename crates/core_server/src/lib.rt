@@ -1,4 +1,4 @@
-//! The server without exchanges and clients: its registry, the shapes of its live numbers, and what commits, snapshots and requests do to them.
+//! The server without exchanges and clients: its registry, the shapes of its live numbers, and what requests, refused snapshots and removals do to them.
 #![tactic(auto)]
 
 mod answering;

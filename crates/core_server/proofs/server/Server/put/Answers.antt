@@ -1,13 +1,12 @@
-use Rattle.std.proofs.Common.{◌≡◌, ◌+◌, ◌∙◌, [], ◌∷◌, ◌++◌, length, Some, refl, ap, sym, subst}
+use Rattle.std.proofs.Common.{◌+◌, ◌∙◌, [], ◌∷◌, ◌++◌, length, Some, refl, ap, sym, subst}
 use Rattle.shape_base.specs.declared.registry_event.RegistryEvent.TheVariants as events
 use Rattle.shape_base.specs.RegistryHistory as histories
 use Rattle.shape_registry.specs.State.{id_in, live_as}
 use Rattle.http_edge.specs.declared.error_code.ErrorCode.TheVariants as codes
 use Rattle.shape_registry.proofs.Laws.{refusal_by_history}
-use Rattle.http_edge.specs.Lawful.{refusal_of_limit}
-use Rattle.core_law.specs.Situation.{registry_start, known_of}
+use Rattle.core_law.specs.Situation.{registry_start}
 use Rattle.core_server.specs.Standing.{reader_in}
-use Rattle.core_server.specs.Registers.{IsDefinedFor, IsRegisterError}
+use Rattle.core_server.specs.Registers.{IsDefinedFor}
 use Rattle.core_server.proofs.Registrations.{free_is, limit_allows, number_refused, registered}
 use Rattle.core_server.proofs.server.Server.put.Goals as goal
 
