@@ -1,5 +1,5 @@
 -- Rows under the entries of a log.
-use Rattle.std.specs.Prelude.{◌≡◌, ℕ, List, [], ◌∷◌, Option, None, Some, Result, Ok, Err, IsSomeAnd}
+use Rattle.std.specs.Prelude.{◌≡◌, ℕ, List, [], ◌∷◌, Option, None, Some, IsSomeAnd}
 use Rattle.std.specs.FinMap as fin
 use Rattle.shape_base.specs.declared.entry.Cell.{Cell}
 use Rattle.shape_base.specs.declared.entry.KeyedRow.{KeyedRow}
@@ -23,10 +23,10 @@ abbrev pub undone : List Undo → Map → Map
 undone [] m = m
 undone (u ∷ us) m = restored u.key u.before (undone us m)
 
--- an entry was folded, and can be undone; or it was not, and the rows are as they were, and its key comes back
-abbrev pub Undoes : Map → Map → Option Map → List ℕ → Result Undo (List ℕ) → Type 0
-Undoes old new folded key (Err back) = (folded ≡ None) × (new ≡ old) × (back ≡ key)
-Undoes old new folded key (Ok u) = (folded ≡ Some new) × (restored u.key u.before new ≡ old)
+-- an entry was folded, and can be undone; or it was not, and the rows are as they were
+abbrev pub Undoes : Map → Map → Option Map → Option Undo → Type 0
+Undoes old new folded None = (folded ≡ None) × (new ≡ old)
+Undoes old new folded (Some u) = (folded ≡ Some new) × (restored u.key u.before new ≡ old)
 
 -- The entries were folded; or the first one that does not find what it needs is this, and the rows are as they were.
 abbrev pub IsFolded : List Entry → Map → Map → Option Fault → Type 0

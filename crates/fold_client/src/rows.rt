@@ -8,7 +8,7 @@ ghost use Rattle.shape_base.specs.Maps.{map_in};
 ghost use Rattle.fold_client.specs.Rows.{keyed_row, restored, undone, IsFolded, Undoes};
 
 use shape_base::{
-    Cell, Cells, Duplicate, Entries, KeyedRow, KeyedRows, Offset, Op, OutOfMemory, Text,
+    Cell, Cells, Duplicate, Entry, KeyedRow, KeyedRows, Offset, Op, OutOfMemory, Text,
     are_same_texts,
 };
 use std::alloc::Global;
@@ -125,56 +125,55 @@ impl FoldedRows {
         }
     }
 
-    fn insert(&mut self, key: Text, cells: Cells) -> Result<Result<Undo, Text>, OutOfMemory>
-        ensures { IfOk result (Undoes self.old self.new (fold_op Op.Insert key cells self.old) key) }
+    fn insert(&mut self, entry: &Entry) -> Result<Option<Undo>, OutOfMemory>
+        ensures { IfOk result (Undoes self.old self.new (fold_op Op.Insert entry.now.key entry.now.cells self.old)) }
     {
-        match self.put(&key, cells)? {
-            None => Ok(Ok(Undo { key, before: None })),
+        let cells = entry.cells.copy(self.alloc)?;
+        let key = entry.key.copy(self.alloc)?;
+        match self.put(&entry.key, cells)? {
+            None => Ok(Some(Undo { key, before: None })),
             Some(before) => {
-                let _cells = self.put(&key, before)?;
-                Ok(Err(key))
+                let _cells = self.put(&entry.key, before)?;
+                Ok(None)
             }
         }
     }
 
-    fn update(&mut self, key: Text, news: Cells) -> Result<Result<Undo, Text>, OutOfMemory>
-        ensures { IfOk result (Undoes self.old self.new (fold_op Op.Update key news self.old) key) }
+    fn update(&mut self, entry: &Entry) -> Result<Option<Undo>, OutOfMemory>
+        ensures { IfOk result (Undoes self.old self.new (fold_op Op.Update entry.now.key entry.now.cells self.old)) }
     {
-        match self.get(&key) {
-            None => Ok(Err(key)),
+        let key = entry.key.copy(self.alloc)?;
+        match self.get(&entry.key) {
+            None => Ok(None),
             Some(before) => {
-                let cells = replaced_cells(self.alloc, before, &news)?;
-                let stood = self.put(&key, cells)?;
-                Ok(Ok(Undo { key, before: stood }))
+                let cells = replaced_cells(self.alloc, before, &entry.cells)?;
+                let stood = self.put(&entry.key, cells)?;
+                Ok(Some(Undo { key, before: stood }))
             }
         }
     }
 
-    fn delete(&mut self, key: Text, cells: Cells) -> Result<Result<Undo, Text>, OutOfMemory>
-        ensures { IfOk result (Undoes self.old self.new (fold_op Op.Delete key cells self.old) key) }
+    fn delete(&mut self, entry: &Entry) -> Result<Option<Undo>, OutOfMemory>
+        ensures { IfOk result (Undoes self.old self.new (fold_op Op.Delete entry.now.key entry.now.cells self.old)) }
     {
-        let Some(before) = self.take_out(&key) else {
-            return Ok(Err(key));
+        let key = entry.key.copy(self.alloc)?;
+        let Some(before) = self.take_out(&entry.key) else {
+            return Ok(None);
         };
-        Ok(Ok(Undo {
+        Ok(Some(Undo {
             key,
             before: Some(before),
         }))
     }
 
-    /// Folds one entry, where it finds what it needs; where it does not, its key comes back.
-    fn fold_one(
-        &mut self,
-        op: Op,
-        key: Text,
-        cells: Cells,
-    ) -> Result<Result<Undo, Text>, OutOfMemory>
-        ensures { IfOk result (Undoes self.old self.new (fold_op op key cells self.old) key) }
+    /// Folds one entry, where it finds what it needs.
+    fn fold_one(&mut self, entry: &Entry) -> Result<Option<Undo>, OutOfMemory>
+        ensures { IfOk result (Undoes self.old self.new (fold_op entry.now.op entry.now.key entry.now.cells self.old)) }
     {
-        match op {
-            Op::Insert => self.insert(key, cells),
-            Op::Update => self.update(key, cells),
-            Op::Delete => self.delete(key, cells),
+        match entry.op {
+            Op::Insert => self.insert(entry),
+            Op::Update => self.update(entry),
+            Op::Delete => self.delete(entry),
         }
     }
 
@@ -191,19 +190,20 @@ impl FoldedRows {
     /// Folds entries, each of which finds what it needs in the rows after those before it.
     ///
     /// Where one does not, the first such entry is named, and the rows are as they were. After want of memory nothing is said of the rows.
-    pub fn fold(&mut self, entries: Entries) -> Result<Option<Fault>, OutOfMemory>
-        ensures { IfOk result (IsFolded entries self.old self.new) }
+    pub fn fold(&mut self, entries: &[Entry]) -> Result<Option<Fault>, OutOfMemory>
+        ensures { IfOk result (IsFolded entries.now self.old self.new) }
     {
         let mut folded = Vec::new(self.alloc);
-        for entry in entries.into_vec() {
-            let offset = entry.offset;
-            match self.fold_one(entry.op, entry.key, entry.cells)? {
-                Ok(undo) => folded.push(undo)?,
-                Err(key) => {
-                    self.undo(folded)?;
-                    return Ok(Some(Fault { offset, key }));
-                }
-            }
+        for entry in entries {
+            let Some(undo) = self.fold_one(entry)? else {
+                let key = entry.key.copy(self.alloc)?;
+                self.undo(folded)?;
+                return Ok(Some(Fault {
+                    offset: entry.offset,
+                    key,
+                }));
+            };
+            folded.push(undo)?;
         }
         Ok(None)
     }
