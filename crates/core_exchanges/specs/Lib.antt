@@ -1,0 +1,3 @@
+pub mod Standing
+pub mod Indexing
+pub mod Giving
