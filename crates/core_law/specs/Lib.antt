@@ -4,3 +4,4 @@ pub mod Clients
 pub mod Run
 pub mod Laws
 pub mod Waiting
+pub mod Reached

@@ -4,6 +4,7 @@
 #![tactic(auto)]
 
 ghost use Rattle.core_law.specs.Laws.{RepliesAreLawful, RepliesAreFair, RepliesStay, AnsweredAtOnce, DropsExactly, Headline};
+ghost use Rattle.core_law.specs.Reached.{RepliesHaveTexts, RepliesSay, ExchangesRise, OthersWait, RolesAreGiven};
 ghost use Rattle.core_law.specs.Waiting.{WaitsForOne};
 
 /// Each reply given is lawful.
@@ -39,4 +40,29 @@ pub fn drops_exactly()
 /// Each block has the rows of the table after the client's reach that the shape of its identity selects.
 pub fn headline()
     ensures { Headline }
+{}
+
+/// Each reply that an exchange gets can be written as a text.
+pub fn replies_have_texts()
+    ensures { RepliesHaveTexts }
+{}
+
+/// The body of each reply that an exchange gets is read back as what was written, where the offsets of all logs have 64 bits.
+pub fn replies_say()
+    ensures { RepliesSay }
+{}
+
+/// The moments of exchanges rise.
+pub fn exchanges_rise()
+    ensures { ExchangesRise }
+{}
+
+/// An exchange gets no reply by an event that changes nothing of the number that it awaits.
+pub fn others_wait()
+    ensures { OthersWait }
+{}
+
+/// The number that an exchange found or registered was registered.
+pub fn roles_are_given()
+    ensures { RolesAreGiven }
 {}
