@@ -25,7 +25,7 @@ use Rattle.shape_json.specs.Answer.{Answer, Paged, Gone, OffsetAhead, NotYet, St
 use Rattle.shape_json.proofs.Lemmas.{pages_are_asked, gone_names_ready, page_is_front}
 use Rattle.http_edge.specs.declared.error_code.ErrorCode.{ErrorCode}
 use Rattle.http_edge.specs.declared.error_code.ErrorCode.TheVariants as codes
-use Rattle.http_edge.specs.World.{World, Given, situation, IsGoodWorld}
+use Rattle.http_edge.specs.World.{World, IsGoodWorld}
 use Rattle.http_edge.specs.Lawful.{Asked, Refuses, AsksFor, next_cursor, IsLawful}
 use Rattle.fold_client.specs.Client.{Says}
 use Rattle.fold_client.specs.Following.{Heard, AreFair, start}
@@ -34,9 +34,8 @@ use Rattle.core_law.specs.Steps.{Written, refused_with, written_as, written_to, 
 use Rattle.core_law.specs.Laws.{IsFirst, IsTold, IsLawfulExchange}
 use Rattle.core_law.proofs.Lists.{some_same}
 use Rattle.core_law.proofs.Server.{Sound, Extends}
-use Rattle.core_law.proofs.Worlds.{answer_is}
 use Rattle.core_law.proofs.Registrations.{still_registered}
-use Rattle.core_law.proofs.Replies.{HasWait, HasRole, lawful_now, says_now, page_read, refused_says}
+use Rattle.core_law.proofs.Replies.{HasWait, HasRole, lawful_now, told_pages, says_now, refused_says}
 use Rattle.core_law.proofs.Fields.{HasFields, HasReplyFields}
 use Rattle.core_law.proofs.Targets.{ReadsBack}
 
@@ -103,7 +102,7 @@ last_fits o [] is all = is
 last_fits o (e ∷ es) is all = last_fits e.offset es all.0 all.1
 
 -- a number that is registered, of the server's run, has a handle
-handle_fits : (o : Options) (v : Server) (identity : List ℕ) (n : ℕ) → Sound o v → was_registered_under v.registry identity n ≡ true → IsHandle (in_run o.run n)
+pub handle_fits : (o : Options) (v : Server) (identity : List ℕ) (n : ℕ) → Sound o v → was_registered_under v.registry identity n ≡ true → IsHandle (in_run o.run n)
 handle_fits o v identity n sound under =
     let named = sound.named identity n under in
     let range = in_range v.shapes n named.shape named.at in
@@ -118,7 +117,7 @@ handle_fits o v identity n sound under =
     in_range xs zero x h = cc
     in_range xs (suc i) x h = let l = within xs i x h in (omega arith, omega (arith, l))
 
-some_handle : (o : Options) (v : Server) (late : Bool) (ask : Ask) (named : Option Handle) → Sound o v → IfSome named (IsNamedReady (answers_from o v late) ask) → IfSome named IsHandle
+pub some_handle : (o : Options) (v : Server) (late : Bool) (ask : Ask) (named : Option Handle) → Sound o v → IfSome named (IsNamedReady (answers_from o v late) ask) → IfSome named IsHandle
 some_handle o v late ask None sound h = tt
 some_handle o v late ask (Some handle) sound h =
     let under = (and_parts (was_registered_under v.registry ask.identity handle.number) _ h.under).0 in
@@ -134,9 +133,7 @@ HasParts x = HasReplyFields x.reply
 
 answer_fields : (o : Options) (h : History) (step : ℕ → ℕ) (v z : Server) (late : Bool) (ask : Ask) (answer : Answer) (x : Written) → IsTold o h step z → Sound o v → Extends v z → IsGoodWorld (world_of o h step z) → IsOffset ask.offset → answer_of (answers_from o v late) ask ≡ answer → written_as o v ask answer ≡ Some x → HasParts x
 answer_fields o h step v z late ask (Paged handle from page) x told sound on good fits e gives =
-    let g : Given = record { reply = x.reply; seen = length v.registry; shown = length v.commits } in
-    let at : answer_of (situation (world_of o h step z) g late) ask ≡ Paged handle from page = sym (answer_is o h step v z late g ask refl refl told sound on) ∙ e in
-    let read = page_read (world_of o h step z) g late ask handle from page good at in
+    let read = told_pages o h step v z told sound on good late ask handle from page e in
     let p = pages_are_asked (answers_from o v late) ask handle from page e in
     let front = page_is_front o.limits.chunk ((answers_from o v late).log handle.number) from in
     let under = (and_parts (was_registered_under v.registry ask.identity handle.number) _ p.under).0 in
@@ -181,7 +178,7 @@ lawful_option o h step v z late x (Some y) e role told sound on = lawful_now o h
 says_option : (o : Options) (h : History) (step : ℕ → ℕ) (v z : Server) (late : Bool) (x : Exchange) (reply : Option Written) → reply_now o v late x.asked x.role ≡ reply → IsTold o h step z → Sound o v → Extends v z → IsGoodWorld (world_of o h step z)
     → IfSome (option_map (heard_at v x.asked) reply) (SaysFor x.asked)
 says_option o h step v z late x None e told sound on good = tt
-says_option o h step v z late x (Some y) e told sound on good = record { asks = refl; says = says_now o h step v z late x.asked x.role y told sound on good e }
+says_option o h step v z late x (Some y) e told sound on good = record { asks = refl; says = says_now o v late x.asked x.role y (told_pages o h step v z told sound on good) e }
 
 fields_option : (o : Options) (h : History) (step : ℕ → ℕ) (v z : Server) (late : Bool) (x : Exchange) (reply : Option Written) → reply_now o v late x.asked x.role ≡ reply → IsTold o h step z → Sound o v → Extends v z → IsGoodWorld (world_of o h step z) → AsksWithin x.asked
     → IfSome (option_map (heard_at v x.asked) reply) (λ heard. HasReplyFields heard.given.reply)

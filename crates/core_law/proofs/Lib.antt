@@ -13,7 +13,15 @@ pub mod Turns
 pub mod Blocks
 pub mod Whole
 pub mod Worked
+pub mod Readers
+pub mod ExchangeSteps
 pub mod Staying
+pub mod Rising
 pub mod Serving
 pub mod Dropping
 pub mod Waiting
+pub mod Runs
+pub mod Reaching
+pub mod Texts
+pub mod Saying
+pub mod Lemmas

@@ -156,7 +156,7 @@ abbrev pub AreRead : Part → Type 0
 AreRead page = ArePlain page.entries × HaveOffsets page.entries
 
 -- the entries of a page can be read back
-pub page_read : (w : World) (g : Given) (late : Bool) (ask : Ask) (handle : Handle) (from : Offset) (page : Part) → IsGoodWorld w → answer_of (situation w g late) ask ≡ Paged handle from page → AreRead page
+page_read : (w : World) (g : Given) (late : Bool) (ask : Ask) (handle : Handle) (from : Offset) (page : Part) → IsGoodWorld w → answer_of (situation w g late) ask ≡ Paged handle from page → AreRead page
 page_read w g late ask handle from page good e =
     let p = pages_are_asked (situation w g late) ask handle from page e in
     let ready = ready_later w g.seen handle.number p.ready in
@@ -164,33 +164,40 @@ page_read w g late ask handle from page good e =
     let alike = alike_itself (log_at w handle.number g.shown) from page (plain_at w handle.number g.shown good ready) (offsets_at w handle.number g.shown good ready) (rises_at w handle.number g.shown good) p.there front in
     (alike.plain, alike.offsets)
 
+-- each page that is answered can be read back
+abbrev pub PagesAreRead : Options → Server → Type 0
+PagesAreRead o v = (late : Bool) (ask : Ask) (handle : Handle) (from : Offset) (page : Part) → answer_of (answers_from o v late) ask ≡ Paged handle from page → AreRead page
+
+-- those of a server that a history and its steps tell are
+pub told_pages : (o : Options) (h : History) (step : ℕ → ℕ) (v z : Server) → IsTold o h step z → Sound o v → Extends v z → IsGoodWorld (world_of o h step z) → PagesAreRead o v
+told_pages o h step v z told sound on good late ask handle from page e =
+    let g = given_of v (refused_with codes.OffsetAhead) in
+    page_read (world_of o h step z) g late ask handle from page good (sym (answer_is o h step v z late g ask refl refl told sound on) ∙ e)
+
 abbrev SaysIt : Written → Type 0
 SaysIt x = Says x.reply.body x.body
 
-says_answer : (o : Options) (h : History) (step : ℕ → ℕ) (v z : Server) (late : Bool) (ask : Ask) (answer : Answer) (x : Written) → IsTold o h step z → Sound o v → Extends v z → IsGoodWorld (world_of o h step z) → answer_of (answers_from o v late) ask ≡ answer → written_as o v ask answer ≡ Some x → SaysIt x
-says_answer o h step v z late ask (Paged handle from page) x told sound on good e gives =
-    let g : Given = record { reply = x.reply; seen = length v.registry; shown = length v.commits } in
-    let read = page_read (world_of o h step z) g late ask handle from page good (sym (answer_is o h step v z late g ask refl refl told sound on) ∙ e) in
-    subst SaysIt (some_same _ x gives) (entries_say page.entries (control_of page.up_to_date) read.0 read.1)
-says_answer o h step v z late ask (Gone named) x told sound on good e gives = subst SaysIt (some_same _ x gives) (entries_say [] MustRefetch refl tt)
-says_answer o h step v z late ask (OffsetAhead end) x told sound on good e gives = subst SaysIt (some_same _ x gives) (refusal_says codes.OffsetAhead)
-says_answer o h step v z late ask NotYet x told sound on good e gives = cc
-says_answer o h step v z late ask (Starting n) x told sound on good e gives = cc
-says_answer o h step v z late ask Unregistered x told sound on good e gives = cc
+says_answer : (o : Options) (v : Server) (late : Bool) (ask : Ask) (answer : Answer) (x : Written) → PagesAreRead o v → answer_of (answers_from o v late) ask ≡ answer → written_as o v ask answer ≡ Some x → SaysIt x
+says_answer o v late ask (Paged handle from page) x read e gives = let r = read late ask handle from page e in subst SaysIt (some_same _ x gives) (entries_say page.entries (control_of page.up_to_date) r.0 r.1)
+says_answer o v late ask (Gone named) x read e gives = subst SaysIt (some_same _ x gives) (entries_say [] MustRefetch refl tt)
+says_answer o v late ask (OffsetAhead end) x read e gives = subst SaysIt (some_same _ x gives) (refusal_says codes.OffsetAhead)
+says_answer o v late ask NotYet x read e gives = cc
+says_answer o v late ask (Starting n) x read e gives = cc
+says_answer o v late ask Unregistered x read e gives = cc
 
-says_to : (o : Options) (h : History) (step : ℕ → ℕ) (v z : Server) (late : Bool) (asked : Asked) (x : Written) → IsTold o h step z → Sound o v → Extends v z → IsGoodWorld (world_of o h step z) → written_to o v late asked ≡ Some x → SaysIt x
-says_to o h step v z late (Refuses code) x told sound on good e = subst SaysIt (some_same _ x e) (refusal_says code)
-says_to o h step v z late (AsksFor ask) x told sound on good e = says_answer o h step v z late ask (answer_of (answers_from o v late) ask) x told sound on good refl e
+says_to : (o : Options) (v : Server) (late : Bool) (asked : Asked) (x : Written) → PagesAreRead o v → written_to o v late asked ≡ Some x → SaysIt x
+says_to o v late (Refuses code) x read e = subst SaysIt (some_same _ x e) (refusal_says code)
+says_to o v late (AsksFor ask) x read e = says_answer o v late ask (answer_of (answers_from o v late) ask) x read refl e
 
-says_unless : (o : Options) (h : History) (step : ℕ → ℕ) (v z : Server) (late : Bool) (asked : Asked) (x : Written) (b : Bool) → IsTold o h step z → Sound o v → Extends v z → IsGoodWorld (world_of o h step z) → (if b then Some (refused_with codes.SnapshotLost) else written_to o v late asked) ≡ Some x → SaysIt x
-says_unless o h step v z late asked x true told sound on good e = subst SaysIt (some_same _ x e) (refusal_says codes.SnapshotLost)
-says_unless o h step v z late asked x false told sound on good e = says_to o h step v z late asked x told sound on good e
+says_unless : (o : Options) (v : Server) (late : Bool) (asked : Asked) (x : Written) (b : Bool) → PagesAreRead o v → (if b then Some (refused_with codes.SnapshotLost) else written_to o v late asked) ≡ Some x → SaysIt x
+says_unless o v late asked x true read e = subst SaysIt (some_same _ x e) (refusal_says codes.SnapshotLost)
+says_unless o v late asked x false read e = says_to o v late asked x read e
 
-pub says_now : (o : Options) (h : History) (step : ℕ → ℕ) (v z : Server) (late : Bool) (asked : Asked) (role : Role) (x : Written) → IsTold o h step z → Sound o v → Extends v z → IsGoodWorld (world_of o h step z) → reply_now o v late asked role ≡ Some x → Says x.reply.body x.body
-says_now o h step v z late asked Reads x told sound on good e = says_to o h step v z late asked x told sound on good e
-says_now o h step v z late asked (Waits n) x told sound on good e = says_unless o h step v z late asked x (was_removed v.registry n) told sound on good e
-says_now o h step v z late asked (Owns n) x told sound on good e = says_unless o h step v z late asked x (was_removed v.registry n) told sound on good e
-says_now o h step v z late asked HasNone x told sound on good e = cc
+pub says_now : (o : Options) (v : Server) (late : Bool) (asked : Asked) (role : Role) (x : Written) → PagesAreRead o v → reply_now o v late asked role ≡ Some x → Says x.reply.body x.body
+says_now o v late asked Reads x read e = says_to o v late asked x read e
+says_now o v late asked (Waits n) x read e = says_unless o v late asked x (was_removed v.registry n) read e
+says_now o v late asked (Owns n) x read e = says_unless o v late asked x (was_removed v.registry n) read e
+says_now o v late asked HasNone x read e = cc
 
 pub refused_says : (code : ErrorCode) → Says (refused_with code).reply.body (refused_with code).body
 refused_says code = refusal_says code

@@ -79,6 +79,10 @@ reader_parts_of o ask d (Some s) r is e = subst (λ (x : Reader). KnowsParts o.t
 reader_parts : (o : Options) (ask : Ask) (d : TableDef) (r : Reader) → reader_under o ask d ≡ Some r → KnowsParts o.tables ask.table d r.knows
 reader_parts o ask d r e = reader_parts_of o ask d (knows_for o.tables ask.table d ask.columns ask.clause) r refl e
 
+-- what a shape knows meets the laws of a test
+pub shape_test : (o : Options) (v : Server) (n : ℕ) (x : Shape) → IsShape o v n x → IsTest x.reader.knows
+shape_test o v n x is = (reader_parts o x.ask is.definition x.reader is.reads).test
+
 -- ---- the world is good
 
 good_shape : (o : Options) (h : History) (step : ℕ → ℕ) (z : Server) (n : ℕ) (x : Shape) (snap : Snapshot) → IsTold o h step z → had_ready z.registry n ≡ true → shape_at z.shapes n ≡ Some x → Rattle.shape_json.specs.ShapeHistory.snapshot_in x.events ≡ Some snap → IsShape o z n x → FitsShape z.commits x.reader x.before snap

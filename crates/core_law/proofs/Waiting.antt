@@ -1,5 +1,5 @@
--- An exchange without a reply waits for one number.
-use Rattle.std.proofs.Common.{◌≡◌, ℕ, Bool, true, false, not, ◌&&◌, ◌||◌, ◌==◌, List, [], ◌∷◌, ◌++◌, refl, sym, ◌∙◌, ap, subst, Option, None, Some}
+-- An exchange without a reply waits for one number, and by what changes nothing of it gets none.
+use Rattle.std.proofs.Common.{◌≡◌, ℕ, Bool, true, false, not, ◌&&◌, ◌||◌, ◌==◌, List, [], ◌∷◌, ◌++◌, map, refl, sym, ◌∙◌, ap, subst, Option, None, Some}
 use Rattle.std.specs.Bool.{if◌then◌else◌}
 use Rattle.std.specs.List.{list_any, AllByRecursion}
 use Rattle.std.specs.Option.{option_map}
@@ -17,20 +17,27 @@ use Rattle.shape_base.proofs.Lemmas.{Decides-same_text}
 use Rattle.shape_json.specs.Answer as answers
 use Rattle.shape_json.specs.Answer.{Answer, Starting, answer_ready, answer_first, answer_named, gone}
 use Rattle.shape_registry.proofs.Legal.{AreApart, same_name, facts_of}
+use Rattle.http_edge.specs.declared.error_code.ErrorCode.{ErrorCode}
 use Rattle.http_edge.specs.declared.error_code.ErrorCode.TheVariants as codes
+use Rattle.fold_client.specs.Following.{Heard}
 use Rattle.http_edge.specs.Lawful.{Asked, Refuses, AsksFor}
 use Rattle.core_law.specs.Situation.{Options, Server, shape_at, log_of_shape, Role, Reads, Waits, Owns, HasNone, Exchange, Situation, at_start, answers_from}
-use Rattle.core_law.specs.Steps.{refused_with, written_as, written_to, reply_now}
+use Rattle.core_law.specs.Steps.{refused_with, written_as, written_to, reply_now, settled_one, refused_at}
 use Rattle.core_law.specs.Run as run
 use Rattle.core_law.specs.Run.{turn_of, next_of, after}
 use Rattle.core_law.specs.Waiting.{number_named, number_asked, awaited, IsAsBefore, WaitsForOne}
+use Rattle.core_law.specs.Laws.{AreSettled}
+use Rattle.core_law.specs.Reached.{HasTable, AsksOfTable, IsReached, OthersWait}
 use Rattle.core_law.proofs.Lists.{some_same}
-use Rattle.core_law.proofs.Server.{Extends}
+use Rattle.core_law.proofs.Server.{Sound, Extends}
 use Rattle.core_law.proofs.Registrations.{or_second, still_registered}
 use Rattle.core_law.proofs.Worlds.{found_ready}
 use Rattle.core_law.proofs.Replies.{HasWait, HasRole}
 use Rattle.core_law.proofs.Settled.{answered_at_once}
-use Rattle.core_law.proofs.Turns.{all_at}
+use Rattle.core_law.proofs.Turns.{all_one_more, all_changed, all_at, AllRoles}
+use Rattle.core_law.proofs.ExchangeSteps.{HasNumber, Comes, Steps, some_given, after_steps}
+use Rattle.core_law.proofs.Reaching.{reached_sound}
+use Rattle.core_law.proofs.Runs.{after_both, reached_next}
 use Rattle.core_law.proofs.Whole.{sound_after, after_extends, roles_after}
 
 -- ---- one live number under an identity
@@ -204,10 +211,6 @@ module _ (o : Options) (v w : Server) (on : Extends v w) where
   still_none limit asked (Owns m) n legal later has number same e = lost_if limit asked m (was_removed v.registry m) refl legal later has (subst (IsAsBefore v w) (sym (some_same m n number)) same) e
   still_none limit asked HasNone n legal later has number same e = cc
 
-after_both : (o : Options) (s : Situation) (es fs : List run.Event) → after o s (es ++ fs) ≡ after o (after o s es) fs
-after_both o s [] fs = refl
-after_both o s (e ∷ es) fs = after_both o (next_of s (turn_of o s e)) es fs
-
 pub waits_for_one : WaitsForOne
 waits_for_one o events later e n x start at none number same =
     let v = (after o at_start events).server in
@@ -215,3 +218,67 @@ waits_for_one o events later e n x start at none number same =
     let settled : reply_now o v false x.asked x.role ≡ None = all_at (λ (x : Exchange). x.given ≡ None → reply_now o v false x.asked x.role ≡ None) (after o at_start events).exchanges e x at (answered_at_once o events) none in
     let on : Extends v w = subst (λ s. Extends v s.server) (sym (after_both o at_start events later)) (after_extends o (after o at_start events) later) in
     still_none o v w on o.limits.shapes x.asked x.role n (sound_after o events start).legal (sound_after o (events ++ later) start).legal (all_at (λ (x : Exchange). HasRole v x.asked x.role) (after o at_start events).exchanges e x at (roles_after o events)) number same settled
+
+-- ---- an event that changes nothing of what it awaits
+
+number_stays : (o : Options) (v : Server) (late : Exchange → Bool) (x : Exchange) (given : Option Heard) → x.given ≡ given → HasNumber o x → HasNumber o (settled_one o v late x given)
+number_stays o v late x None e has = λ ask is first table role none. has ask is first table role e
+number_stays o v late x (Some heard) e has = has
+
+number_refused : (o : Options) (v : Server) (code : ErrorCode) (x : Exchange) → HasNumber o x → HasNumber o (refused_at v code x)
+number_refused o v code x has = λ ask is first table role none. some_given x.given _ none
+
+abbrev HaveNumbers : Options → List Exchange → Type 0
+HaveNumbers o xs = AllByRecursion (HasNumber o) xs
+
+abbrev KeepNumbers : Options → List Exchange → ℕ → List Exchange → ℕ → Type 0
+KeepNumbers o xs now ys later = HaveNumbers o xs → HaveNumbers o ys
+
+numbers_settled : (o : Options) (v : Server) (late : Exchange → Bool) (xs : List Exchange) → HaveNumbers o xs → HaveNumbers o (map (λ x. settled_one o v late x x.given) xs)
+numbers_settled o v late [] h = tt
+numbers_settled o v late (x ∷ xs) h = (number_stays o v late x x.given refl h.0, numbers_settled o v late xs h.1)
+
+steps : (o : Options) → Steps o (KeepNumbers o)
+steps o = record {
+  stays = λ xs now h. h;
+  joins = λ xs ys zs a b c first second h. second (first h);
+  comes = λ xs now x is h. all_one_more (HasNumber o) xs x h is.number;
+  answers = λ xs now v late h. numbers_settled o v late xs h;
+  refuses = λ xs now v code e h. all_changed (HasNumber o) (refused_at v code) xs e (number_refused o v code) h;
+  passes = λ xs now later le h. h;
+}
+
+numbers_after : (o : Options) (s : Situation) → IsReached o s → HaveNumbers o s.exchanges
+numbers_after o s r = subst (λ (t : Situation). HaveNumbers o t.exchanges) (sym r.is) (after_steps o (KeepNumbers o) (steps o) at_start r.events tt)
+
+named_none : (o : Options) (v w : Server) (ask : Ask) (named : Named) → number_named named ≡ None → (named ≡ Absent → ⊥) → written_as o v ask (answer_named (answers_from o v false) ask named) ≡ None → written_as o w ask (answer_named (answers_from o w false) ask named) ≡ None
+named_none o v w ask Absent number some e = absurd (some refl)
+named_none o v w ask (Known handle) number some e = cc
+named_none o v w ask Strange number some e = cc
+
+-- what awaits no number gets no reply ever
+never_one : (o : Options) (v w : Server) (asked : Asked) (role : Role) → awaited asked role ≡ None → ((ask : Ask) → asked ≡ AsksFor ask → role ≡ Reads → ask.named ≡ Absent → ⊥) → reply_now o v false asked role ≡ None → reply_now o w false asked role ≡ None
+never_one o v w (Refuses code) Reads number some e = cc
+never_one o v w (AsksFor ask) Reads number some e = named_none o v w ask ask.named number (λ first. some ask refl refl first) e
+never_one o v w asked (Waits n) number some e = cc
+never_one o v w asked (Owns n) number some e = cc
+never_one o v w asked HasNone number some e = refl
+
+table_of : (o : Options) (asked : Asked) (ask : Ask) → AsksOfTable o asked → asked ≡ AsksFor ask → HasTable o ask
+table_of o (Refuses code) ask has is = cc
+table_of o (AsksFor other) ask has is = let same : other ≡ ask = cc in subst (HasTable o) same has
+
+others_if : (o : Options) (v w : Server) (on : Extends v w) (x : Exchange) (n : Option ℕ) → awaited x.asked x.role ≡ n → Sound o v → Sound o w → HasRole v x.asked x.role → HasNumber o x → x.given ≡ None → AsksOfTable o x.asked
+    → ((n : ℕ) → awaited x.asked x.role ≡ Some n → IsAsBefore v w n) → reply_now o v false x.asked x.role ≡ None → reply_now o w false x.asked x.role ≡ None
+others_if o v w on x None is sound later role number none table same e = never_one o v w x.asked x.role is (λ ask asks reads first. number ask asks first (table_of o x.asked ask table asks) reads none) e
+others_if o v w on x (Some n) is sound later role number none table same e = still_none o v w on o.limits.shapes x.asked x.role n sound.legal later.legal role is (same n is) e
+
+pub others_wait : OthersWait
+others_wait o s e place x start r at none table same =
+    let next = next_of s (turn_of o s e) in
+    let settled = subst (λ (t : Situation). AreSettled o t) (sym r.is) (answered_at_once o r.events) in
+    let roles = subst (λ (t : Situation). AllRoles t) (sym r.is) (roles_after o r.events) in
+    others_if o s.server next.server (after_extends o s (e ∷ [])) x (awaited x.asked x.role) refl (reached_sound o s start r) (reached_sound o next start (reached_next o s e r))
+    (all_at (λ (x : Exchange). HasRole s.server x.asked x.role) s.exchanges place x at roles)
+    (all_at (HasNumber o) s.exchanges place x at (numbers_after o s r)) none table same
+    (all_at (λ (x : Exchange). x.given ≡ None → reply_now o s.server false x.asked x.role ≡ None) s.exchanges place x at settled none)

@@ -1,13 +1,14 @@
 -- What holds of each situation that events lead to, as a machine needs it.
-use Rattle.std.specs.Prelude.{◌≡◌, ℕ, ◌≤◌, Bool, true, false, List, [], ◌∷◌, Option, None, Some, IfSome, slice_get}
+use Rattle.std.specs.Prelude.{◌≡◌, ℕ, ◌≤◌, ◌<◌, Bool, true, false, List, [], ◌∷◌, length, Option, None, Some, IfSome, slice_get}
 use Rattle.std.specs.List.{list_all, AllByRecursion}
+use Rattle.shape_base.specs.declared.ask.Ask.{Ask}
 use Rattle.shape_base.specs.declared.reply.Reply.{Reply}
 use Rattle.shape_base.specs.Handle.{IsHandle}
 use Rattle.shape_base.specs.RegistryHistory.{was_registered}
 use Rattle.shape_json.specs.Reading.{HaveOffsets}
 use Rattle.http_edge.specs.Status.{is_status}
 use Rattle.http_edge.specs.ReplyText.{is_visible}
-use Rattle.http_edge.specs.Lawful.{Asked}
+use Rattle.http_edge.specs.Lawful.{Asked, Refuses, AsksFor}
 use Rattle.fold_client.specs.Client.{Says}
 use Rattle.core_law.specs.Situation.{Options, Shape, Server, shape_at, log_of_shape, Role, Reads, Waits, Owns, HasNone, Exchange, Situation, at_start}
 use Rattle.core_law.specs.Steps.{Written, reply_now}
@@ -47,9 +48,18 @@ MomentsRise (x ∷ xs) = AllByRecursion (λ (y : Exchange). x.moment ≤ y.momen
 abbrev pub ExchangesRise : Type 0
 ExchangesRise = (o : Options) (s : Situation) → IsReached o s → MomentsRise s.exchanges
 
+-- a table that is asked for is served, and has a first definition
+pub record HasTable (o : Options) (ask : Ask) : Type 0 where
+  pub served : ask.table < length o.tables
+  pub defined : ask.table < length o.catalog
+
+abbrev pub AsksOfTable : Options → Asked → Type 0
+AsksOfTable o (Refuses code) = Unit {0}
+AsksOfTable o (AsksFor ask) = HasTable o ask
+
 -- An exchange without a reply gets none by an event that changes nothing of the number that it awaits, unless it is late.
 abbrev pub OthersWait : Type 0
-OthersWait = (o : Options) (s : Situation) (e : Event) (place : ℕ) (x : Exchange) → IsStart o → IsReached o s → slice_get s.exchanges place ≡ Some x → x.given ≡ None
+OthersWait = (o : Options) (s : Situation) (e : Event) (place : ℕ) (x : Exchange) → IsStart o → IsReached o s → slice_get s.exchanges place ≡ Some x → x.given ≡ None → AsksOfTable o x.asked
     → ((n : ℕ) → awaited x.asked x.role ≡ Some n → IsAsBefore s.server (next_of s (turn_of o s e)).server n) → reply_now o (next_of s (turn_of o s e)).server false x.asked x.role ≡ None
 
 -- a number that an exchange found or registered was registered
