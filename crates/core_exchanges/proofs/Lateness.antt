@@ -11,10 +11,11 @@ use Rattle.std.specs.declared.cmp.Ordering.TheVariants.{Less}
 use Rattle.core_law.specs.Situation as law
 use Rattle.core_law.specs.Situation.{Options}
 use Rattle.core_law.specs.Run.{is_late_at}
+use Rattle.core_law.specs.Reached.{MomentsRise}
 use Rattle.core_exchanges.specs.declared.exchange.Exchange.{Exchange}
 use Rattle.core_exchanges.specs.Indexing.{is_among, is_open_in}
 use Rattle.core_exchanges.specs.Standing.{EachStands, StandsThere, is_open, is_there, passes_at, ArePlaces}
-use Rattle.core_exchanges.specs.Giving.{is_late, is_late_there, MomentsRise}
+use Rattle.core_exchanges.specs.Giving.{is_late, is_late_there}
 use Rattle.core_exchanges.proofs.Standings.{stands_there}
 
 -- ---- a front of what is sorted

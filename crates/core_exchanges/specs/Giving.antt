@@ -1,6 +1,5 @@
 -- What becomes of an exchange that is given a reply, and which are late.
-use Rattle.std.specs.Prelude.{◌≤◌, ◌+◌, nat_le, ℕ, Bool, false, ◌&&◌, List, [], ◌∷◌, Option, None, Some}
-use Rattle.std.specs.List.{AllByRecursion}
+use Rattle.std.specs.Prelude.{◌+◌, nat_le, ℕ, Bool, false, ◌&&◌, Option, None, Some}
 use Rattle.std.specs.Option.{option_or}
 use Rattle.shape_base.specs.declared.reply.Reply.{Reply}
 use Rattle.fold_client.specs.Following.{Heard}
@@ -25,8 +24,3 @@ is_late o now x = is_open x && is_late_at o now x
 abbrev pub is_late_there : ℕ → ℕ → Option Kept → Bool
 is_late_there now hold None = false
 is_late_there now hold (Some e) = nat_le (e.moment + hold) now
-
--- each came no later than those behind it
-abbrev pub MomentsRise : List Exchange → Type 0
-MomentsRise [] = Unit {0}
-MomentsRise (x ∷ xs) = AllByRecursion (λ (y : Exchange). x.moment ≤ y.moment) xs × MomentsRise xs

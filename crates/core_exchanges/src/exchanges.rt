@@ -8,8 +8,9 @@ ghost use Rattle.core_law.specs.Situation as law;
 ghost use Rattle.core_law.specs.Situation.{Options, Situation};
 ghost use Rattle.core_law.specs.Steps.{change_at};
 ghost use Rattle.core_law.specs.Clients as steps;
+ghost use Rattle.core_law.specs.Reached.{MomentsRise};
 ghost use Rattle.core_exchanges.specs.Standing.{Stands, StandsFor, StandsThere, ArePlaces, awaits, is_open, has_space};
-ghost use Rattle.core_exchanges.specs.Giving.{given_to, HearsAs, is_late, is_late_there, MomentsRise};
+ghost use Rattle.core_exchanges.specs.Giving.{given_to, HearsAs, is_late, is_late_there};
 
 use super::exchange::Exchange;
 use super::indexes::Indexes;

@@ -23,7 +23,7 @@ use Rattle.core_events.specs.declared.out.Unfit.TheVariants as unfit
 use Rattle.fold_client.specs.Client.{take_reply}
 use Rattle.fold_client.specs.Following.{Heard}
 use Rattle.core_law.specs.Situation.{Options, Shape, Server, shape_at, Role, Reads, Waits, Owns, HasNone, Exchange, Customer, Situation, known_of, held_of, next_target, next_asked, reader_for}
-use Rattle.core_law.specs.Steps.{change_at, settled_one, settled, with_shape, with_exchange, refused_at, with_role, registered_for, opened, asked_first, asked_named, asked_for, exchange_at, request, Fault, code_of, owned_by, refusal_of_snapshot, changed_in, snapshot_ends, snapped, dropped, redefined, after_commit}
+use Rattle.core_law.specs.Steps.{change_at, heard_at, refused_with, settled_one, settled, with_shape, with_exchange, refused_at, with_role, registered_for, opened, asked_first, asked_named, asked_for, exchange_at, request, Fault, code_of, owned_by, refusal_of_snapshot, changed_in, snapshot_ends, snapped, dropped, redefined, after_commit}
 use Rattle.core_law.specs.Clients.{Out, Cut, Turn, Goes, Stops, is_unfit, finished, never, has_room, waits_at, is_long, requested, sent, send_by, take_heard, is_next, take_exchange, take_by, joined, then_goes, goes_on, watch_heard, watch_exchange, watch_open, watched_by, watch}
 use Rattle.core_law.specs.Run as run
 use Rattle.core_law.specs.Run.{RequestCame, HeadCut, SnapshotCame, SnapshotEnded, Committed, Remove, Moment, Joined, SendNext, Receive, Watch, is_late_at, rounds, turn_of, next_of, after}
@@ -113,7 +113,7 @@ module _ (o : Options) (R : List Exchange → ℕ → List Exchange → ℕ → 
   registers s x ask (Some reader) reads allowed at asked = steps.comes s.exchanges s.clock (with_role (Owns (length s.server.shapes + 1)) x) (record { moment = at; number = λ other is first has role none. owns_reads (length s.server.shapes + 1) role })
 
   opens : (s : Situation) (x : Exchange) (ask : Ask) (code : Option ErrorCode) → refusal_to_register (known_of o s.server) s.server.registry ask ≡ code → x.moment ≡ s.clock → x.asked ≡ AsksFor ask → Moves s (opened o s x ask code)
-  opens s x ask (Some code) why at asked = steps.comes s.exchanges s.clock (refused_at s.server code x) (record { moment = at; number = λ other is first has role none. some_given x.given _ none })
+  opens s x ask (Some code) why at asked = steps.comes s.exchanges s.clock (refused_at s.server code x) (record { moment = at; number = λ other is first has role none. some_given x.given (heard_at s.server x.asked (refused_with code)) none })
   opens s x ask None allowed at asked = registers s x ask (reader_for o s.server.registry ask) refl allowed at asked
 
   firsts : (s : Situation) (x : Exchange) (ask : Ask) (n : Option ℕ) → x.moment ≡ s.clock → x.asked ≡ AsksFor ask → Moves s (asked_first o s x ask n)

@@ -7,14 +7,15 @@ use Rattle.shape_base.specs.declared.ask.Ask.{Ask}
 use Rattle.shape_base.specs.declared.definition.TableDef.{TableDef}
 use Rattle.shape_base.specs.declared.registry_event.RegistryEvent.{RegistryEvent}
 use Rattle.shape_base.specs.declared.served.Served.{Served}
-use Rattle.shape_base.specs.Tables.{key_places}
+use Rattle.shape_base.specs.Tables.{place_of, key_places}
 use Rattle.shape_base.specs.Shape.{Knows}
 use Rattle.shape_base.specs.RegistryHistory.{redefinitions, redefined, catalog_after, definition_after}
 use Rattle.shape_json.specs.ShapeHistory.{Reader}
 use Rattle.shape_def.specs.declared.faults.DefError.{DefError}
+use Rattle.shape_def.specs.declared.faults.DefError.TheVariants as errors
 use Rattle.shape_def.specs.Identity.{Names}
-use Rattle.shape_def.specs.Clauses.{unread_under}
-use Rattle.shape_def.specs.Definition.{selected_places, is_key_missing, refusal_of, knows_of, knows_by, knows_with, knows_for}
+use Rattle.shape_def.specs.Clauses.{unread_under, refusal_of_clause}
+use Rattle.shape_def.specs.Definition.{selected_places, is_key_missing, refusal_of_choice, refusal_of, knows_of, knows_by, knows_with, knows_for}
 use Rattle.http_edge.specs.declared.error_code.ErrorCode.{ErrorCode}
 use Rattle.http_edge.specs.Lawful.{definition_code, refusal_under, refusal_of_limit, refusal_to_register}
 use Rattle.column_names.specs.Names.{has_name_twice}
@@ -69,7 +70,7 @@ keyed_if served d false error rest is e none = some_places (key_places served d)
 
 -- a definition that is not refused has its key
 keyed : (served : Served) (d : TableDef) (chosen : Option Names) (clause : Option (List ℕ)) → refusal_of served d chosen clause ≡ None → key_places served d ≡ None → ⊥
-keyed served d chosen clause allowed none = keyed_if served d (is_key_missing served d) _ _ refl allowed none
+keyed served d chosen clause allowed none = keyed_if served d (is_key_missing served d) errors.KeyMissing (option_or (refusal_of_choice (place_of d.columns) served.key chosen) (refusal_of_clause d.columns clause)) refl allowed none
 
 known_by : (served : Served) (d : TableDef) (chosen : Option Names) (clause : Option (List ℕ)) (refused : Option DefError) → refusal_of served d chosen clause ≡ refused → refused ≡ None → knows_by served d chosen clause refused ≡ None → ⊥
 known_by served d chosen clause (Some error) is allowed e = cc

@@ -57,16 +57,17 @@ glyph_visible upper d small = pick (nat_lt d 10) upper
     pick false true = visible_from (55 + d) (omega arith) (omega (arith, small))
     pick false false = visible_from (87 + d) (omega arith) (omega (arith, small))
 
+digit_visible : (n : ℕ) (acc : List ℕ) → AreVisible acc → AreVisible (digit_glyph false (n % 10) ∷ acc)
+digit_visible n acc h = visible_first (digit_glyph false (n % 10)) acc (glyph_visible false (n % 10) (omega arith)) h
+
+either_visible : (b : Bool) (xs ys : List ℕ) → AreVisible xs → AreVisible ys → AreVisible (if b then xs else ys)
+either_visible true xs ys h k = h
+either_visible false xs ys h k = k
+
 onto_visible : (k n : ℕ) (acc : List ℕ) → AreVisible acc → AreVisible (digits_onto k 10 false n acc)
 onto_visible zero n acc h = h
-onto_visible (suc k) n acc h = pick (n / 10 == 0)
-  where
-    more : AreVisible (digit_glyph false (n % 10) ∷ acc)
-    more = visible_first (digit_glyph false (n % 10)) acc (glyph_visible false (n % 10) (omega arith)) h
-
-    pick : (b : Bool) → AreVisible (if b then digit_glyph false (n % 10) ∷ acc else digits_onto k 10 false (n / 10) (digit_glyph false (n % 10) ∷ acc))
-    pick true = more
-    pick false = onto_visible k (n / 10) (digit_glyph false (n % 10) ∷ acc) more
+onto_visible (suc k) n acc h = let more = digit_visible n acc h in
+    either_visible (n / 10 == 0) (digit_glyph false (n % 10) ∷ acc) (digits_onto k 10 false (n / 10) (digit_glyph false (n % 10) ∷ acc)) more (onto_visible k (n / 10) (digit_glyph false (n % 10) ∷ acc) more)
 
 decimal_visible : (n : ℕ) → AreVisible (decimal n)
 unfolding digits
@@ -74,7 +75,9 @@ decimal_visible n = onto_visible 64 n [] refl
 
 escaped_visible : (b : ℕ) → AreVisible (percent_encode_byte b)
 unfolding percent_encode_byte
-escaped_visible b = visible_first 37 _ refl (visible_first (digit_glyph true (b / 16 % 16)) _ (glyph_visible true (b / 16 % 16) (omega arith)) (visible_first (digit_glyph true (b % 16)) [] (glyph_visible true (b % 16) (omega arith)) refl))
+escaped_visible b =
+    let low = visible_first (digit_glyph true (b % 16)) [] (glyph_visible true (b % 16) (omega arith)) refl in
+    visible_first 37 (digit_glyph true (b / 16 % 16) ∷ digit_glyph true (b % 16) ∷ []) refl (visible_first (digit_glyph true (b / 16 % 16)) (digit_glyph true (b % 16) ∷ []) (glyph_visible true (b / 16 % 16) (omega arith)) low)
 
 unchanged_visible : (b : ℕ) → is_unchanged b ≡ true → is_visible b ≡ true
 unchanged_visible b h = grind (arith, nat_tests, h)

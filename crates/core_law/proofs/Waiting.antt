@@ -22,7 +22,7 @@ use Rattle.http_edge.specs.declared.error_code.ErrorCode.TheVariants as codes
 use Rattle.fold_client.specs.Following.{Heard}
 use Rattle.http_edge.specs.Lawful.{Asked, Refuses, AsksFor}
 use Rattle.core_law.specs.Situation.{Options, Server, shape_at, log_of_shape, Role, Reads, Waits, Owns, HasNone, Exchange, Situation, at_start, answers_from}
-use Rattle.core_law.specs.Steps.{refused_with, written_as, written_to, reply_now, settled_one, refused_at}
+use Rattle.core_law.specs.Steps.{refused_with, written_as, written_to, reply_now, heard_at, settled_one, refused_at}
 use Rattle.core_law.specs.Run as run
 use Rattle.core_law.specs.Run.{turn_of, next_of, after}
 use Rattle.core_law.specs.Waiting.{number_named, number_asked, awaited, IsAsBefore, WaitsForOne}
@@ -226,7 +226,7 @@ number_stays o v late x None e has = λ ask is first table role none. has ask is
 number_stays o v late x (Some heard) e has = has
 
 number_refused : (o : Options) (v : Server) (code : ErrorCode) (x : Exchange) → HasNumber o x → HasNumber o (refused_at v code x)
-number_refused o v code x has = λ ask is first table role none. some_given x.given _ none
+number_refused o v code x has = λ ask is first table role none. some_given x.given (heard_at v x.asked (refused_with code)) none
 
 abbrev HaveNumbers : Options → List Exchange → Type 0
 HaveNumbers o xs = AllByRecursion (HasNumber o) xs
