@@ -1,4 +1,6 @@
 -- What other crates cite of the proofs here.
+pub use Rattle.core_law.proofs.Lists.{place_stays, one_more, last_place}
+pub use Rattle.core_law.proofs.Worlds.{found_ready}
 pub use Rattle.core_law.proofs.Readers.{catalog_length}
 pub use Rattle.core_law.proofs.Runs.{after_both, after_one_more, reached_next}
 pub use Rattle.core_law.proofs.Settled.{answered_at_once}
