@@ -22,8 +22,8 @@ use Rattle.core_events.specs.declared.out.StepError.TheVariants as errors
 use Rattle.core_events.specs.declared.out.Unfit.TheVariants as unfit
 use Rattle.fold_client.specs.Client.{take_reply}
 use Rattle.fold_client.specs.Following.{Heard}
-use Rattle.core_law.specs.Situation.{Options, Shape, Server, shape_at, Role, Reads, Waits, Owns, HasNone, Exchange, Customer, Situation, known_of, held_of, next_target, next_asked, reader_for}
-use Rattle.core_law.specs.Steps.{change_at, heard_at, refused_with, settled_one, settled, with_shape, with_exchange, refused_at, with_role, registered_for, opened, asked_first, asked_named, asked_for, exchange_at, request, Fault, code_of, owned_by, refusal_of_snapshot, changed_in, snapshot_ends, snapped, dropped, redefined, after_commit}
+use Rattle.core_law.specs.Situation.{Options, Shape, Server, shape_at, Reads, Waits, Owns, HasNone, Exchange, Customer, Situation, known_of, held_of, next_target, next_asked, reader_for}
+use Rattle.core_law.specs.Steps.{change_at, heard_at, refused_with, settled_one, settled, with_exchange, refused_at, with_role, registered_for, opened, asked_first, asked_named, asked_for, exchange_at, request, Fault, code_of, owned_by, refusal_of_snapshot, changed_in, snapshot_ends, snapped, dropped, redefined, after_commit}
 use Rattle.core_law.specs.Clients.{Out, Cut, Turn, Goes, Stops, is_unfit, finished, never, has_room, waits_at, is_long, requested, sent, send_by, take_heard, is_next, take_exchange, take_by, joined, then_goes, goes_on, watch_heard, watch_exchange, watch_open, watched_by, watch}
 use Rattle.core_law.specs.Run as run
 use Rattle.core_law.specs.Run.{RequestCame, HeadCut, SnapshotCame, SnapshotEnded, Committed, Remove, Moment, Joined, SendNext, Receive, Watch, is_late_at, rounds, turn_of, next_of, after}

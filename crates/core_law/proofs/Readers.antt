@@ -16,7 +16,6 @@ use Rattle.shape_def.specs.declared.faults.DefError.TheVariants as errors
 use Rattle.shape_def.specs.Identity.{Names}
 use Rattle.shape_def.specs.Clauses.{unread_under, refusal_of_clause}
 use Rattle.shape_def.specs.Definition.{selected_places, is_key_missing, refusal_of_choice, refusal_of, knows_of, knows_by, knows_with, knows_for}
-use Rattle.http_edge.specs.declared.error_code.ErrorCode.{ErrorCode}
 use Rattle.http_edge.specs.Lawful.{definition_code, refusal_under, refusal_of_limit, refusal_to_register}
 use Rattle.column_names.specs.Names.{has_name_twice}
 use Rattle.core_law.specs.Situation.{Options, Server, known_of, reader_under, reader_for}

@@ -1,20 +1,17 @@
 -- The body of each reply that an exchange gets is read back as what was written.
 use Rattle.std.proofs.Common.{◌≡◌, ℕ, List, [], ◌∷◌, ◌++◌, refl, sym, subst, Option, None, Some}
-use Rattle.shape_base.specs.declared.ask.Ask.{Ask}
 use Rattle.shape_base.specs.declared.entry.Entry.{Entry}
-use Rattle.shape_base.specs.declared.handle.Handle.{Handle}
 use Rattle.shape_base.specs.declared.offset.Offset.{Offset}
 use Rattle.shape_base.specs.Offsets.{upto, past}
 use Rattle.shape_base.specs.Shape.{IsTest}
 use Rattle.shape_base.specs.Snapshot.{Snapshot}
 use Rattle.shape_base.proofs.Lemmas.{upto_past}
-use Rattle.shape_json.specs.Answer.{Paged, answer_of}
 use Rattle.shape_json.specs.Page.{Part, IsPage}
 use Rattle.shape_json.specs.Plain.{ArePlain}
 use Rattle.shape_json.specs.Reading.{HaveOffsets}
 use Rattle.shape_json.specs.ShapeHistory.{Reader, ShapeEvent, snapshot_in, taken}
 use Rattle.shape_json.proofs.Lemmas.{pages_are_asked, page_is_front, plain_front, plain_back, taken_is_plain}
-use Rattle.core_law.specs.Situation.{Options, Shape, Server, shape_at, log_by, log_of_shape, Situation, answers_from}
+use Rattle.core_law.specs.Situation.{Options, Shape, Server, shape_at, log_by, log_of_shape, answers_from}
 use Rattle.core_law.specs.Reached.{HaveShortLogs, RepliesSay}
 use Rattle.core_law.proofs.Server.{Sound}
 use Rattle.core_law.proofs.Shapes.{shape_test}

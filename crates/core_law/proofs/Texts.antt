@@ -1,5 +1,5 @@
 -- Each reply that an exchange gets can be written.
-use Rattle.std.proofs.Common.{◌≡◌, ℕ, zero, suc, ◌+◌, ◌/◌, ◌%◌, ◌≤◌, ◌<◌, Bool, true, false, ◌&&◌, ◌==◌, List, [], ◌∷◌, ◌++◌, refl, sym, subst, arith, Option, None, Some, IfSome, decimal}
+use Rattle.std.proofs.Common.{◌≡◌, ℕ, zero, suc, ◌+◌, ◌/◌, ◌%◌, ◌≤◌, ◌<◌, Bool, true, false, ◌==◌, List, [], ◌∷◌, ◌++◌, refl, sym, subst, arith, Option, None, Some, IfSome, decimal}
 use Rattle.std.specs.Bool.{if◌then◌else◌}
 use Rattle.std.specs.Option.{option_map}
 use Rattle.std.specs.List.{list_all, flat_map}
@@ -11,8 +11,6 @@ use Rattle.form_urlencoded.specs.Form.{is_unchanged, space, serialize_byte, byte
 use Rattle.percent_encoding.specs.Percent.{percent_encode_byte}
 use Rattle.shape_base.specs.declared.ask.Ask.{Ask}
 use Rattle.shape_base.specs.declared.definition.Column.{Column}
-use Rattle.shape_base.specs.declared.handle.Handle.{Handle}
-use Rattle.shape_base.specs.declared.reply.Reply.{Reply}
 use Rattle.shape_base.specs.Handle.{IsHandle}
 use Rattle.shape_base.specs.Shape.{Knows}
 use Rattle.shape_base.specs.RegistryHistory.{was_removed, was_registered_under}
@@ -26,7 +24,7 @@ use Rattle.http_edge.specs.Schema.{column_text, columns_text, selected_columns, 
 use Rattle.http_edge.specs.Status.{is_status}
 use Rattle.http_edge.specs.World.{Kept}
 use Rattle.http_edge.specs.Lawful.{Asked, Refuses, AsksFor}
-use Rattle.core_law.specs.Situation.{Options, Server, Role, Reads, Waits, Owns, HasNone, Situation, answers_from, known_of}
+use Rattle.core_law.specs.Situation.{Options, Server, Role, Reads, Waits, Owns, HasNone, answers_from, known_of}
 use Rattle.core_law.specs.Steps.{Written, refused_with, written_as, written_to, reply_now}
 use Rattle.core_law.specs.Reached.{HasText, RepliesHaveTexts}
 use Rattle.core_law.proofs.Lists.{some_same}

@@ -35,7 +35,7 @@ use Rattle.core_law.proofs.Worlds.{found_ready}
 use Rattle.core_law.proofs.Replies.{HasWait, HasRole}
 use Rattle.core_law.proofs.Settled.{answered_at_once}
 use Rattle.core_law.proofs.Turns.{all_one_more, all_changed, all_at, AllRoles}
-use Rattle.core_law.proofs.ExchangeSteps.{HasNumber, Comes, Steps, some_given, after_steps}
+use Rattle.core_law.proofs.ExchangeSteps.{HasNumber, Steps, some_given, after_steps}
 use Rattle.core_law.proofs.Reaching.{reached_sound}
 use Rattle.core_law.proofs.Runs.{after_both, reached_next}
 use Rattle.core_law.proofs.Whole.{sound_after, after_extends, roles_after}

@@ -1,5 +1,5 @@
 -- What holds of each situation that events lead to, as a machine needs it.
-use Rattle.std.specs.Prelude.{◌≡◌, ℕ, ◌≤◌, ◌<◌, Bool, true, false, List, [], ◌∷◌, length, Option, None, Some, IfSome, slice_get}
+use Rattle.std.specs.Prelude.{◌≡◌, ℕ, ◌≤◌, ◌<◌, Bool, true, false, List, [], ◌∷◌, length, None, Some, IfSome, slice_get}
 use Rattle.std.specs.List.{list_all, AllByRecursion}
 use Rattle.shape_base.specs.declared.ask.Ask.{Ask}
 use Rattle.shape_base.specs.declared.reply.Reply.{Reply}
@@ -10,7 +10,7 @@ use Rattle.http_edge.specs.Status.{is_status}
 use Rattle.http_edge.specs.ReplyText.{is_visible}
 use Rattle.http_edge.specs.Lawful.{Asked, Refuses, AsksFor}
 use Rattle.fold_client.specs.Client.{Says}
-use Rattle.core_law.specs.Situation.{Options, Shape, Server, shape_at, log_of_shape, Role, Reads, Waits, Owns, HasNone, Exchange, Situation, at_start}
+use Rattle.core_law.specs.Situation.{Options, Server, shape_at, log_of_shape, Role, Reads, Waits, Owns, HasNone, Exchange, Situation, at_start}
 use Rattle.core_law.specs.Steps.{Written, reply_now}
 use Rattle.core_law.specs.Run.{Event, turn_of, next_of, after}
 use Rattle.core_law.specs.Laws.{IsStart}
