@@ -7,3 +7,7 @@ mod Redefining
 mod Texts
 mod Replies
 mod Registrations
+mod Refusing
+mod Lasting
+mod Starting
+mod Rows

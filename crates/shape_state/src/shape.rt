@@ -182,11 +182,11 @@ impl<T: RowTest> Shape<T> {
     /// Takes the snapshot, and then the buffered commits from the first on that it does not show, in their order. One of these may drop the shape, and the answer is still Ok.
     /// The limit of all logs together is not tried.
     ///
-    /// The shape has taken no snapshot before, and this one was started over an equal test and the same limits. Refuses `Gone` exactly where the shape was dropped before. Out of memory the
+    /// The shape has taken no snapshot before, and this one was started over a test that knows the same and the same limits. Refuses `Gone` exactly where the shape was dropped before. Out of memory the
     /// snapshot is lost, and the shape still waits.
     pub fn ready(&mut self, snap: Snap<T>) -> Result<(), ReadyError>
         requires unready { IsUnready self.old.state.kept }
-        requires test { snap.emitter.test ≡ self.old.emitter.test }
+        requires test { T.knows snap.emitter.test ≡ T.knows self.old.emitter.test }
         requires least { snap.kept.log.least ≡ self.old.state.limits.chunk }
         ensures stands { (events : List ShapeEvent) (snapshot : Snapshot) → Stands (reader_of (T.knows self.old.emitter.test) (T.unread self.old.emitter.test)) self.old.state events → snapshot.visibility ≡ snap.vis → HasTaken (reader_of (T.knows snap.emitter.test) (T.unread snap.emitter.test)) snap.limits snap.kept snapshot.rows → OnOk result (Stands (reader_of (T.knows self.old.emitter.test) (T.unread self.old.emitter.test)) self.new.state (after (reader_of (T.knows self.old.emitter.test) (T.unread self.old.emitter.test)) self.old.state.limits events (Snapped snapshot))) }
         ensures went { (r : Reader) (events : List ShapeEvent) → Stands r self.old.state events → OnOk result (drop_of r self.old.state.limits events ≡ None) }
