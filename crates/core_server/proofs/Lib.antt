@@ -7,3 +7,7 @@ mod Redefining
 mod Texts
 mod Replies
 mod Registrations
+mod Passing
+mod Counting
+mod Effects
+mod Committing
