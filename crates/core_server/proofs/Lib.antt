@@ -11,3 +11,7 @@ mod Refusing
 mod Lasting
 mod Starting
 mod Rows
+mod Passing
+mod Counting
+mod Effects
+mod Committing

@@ -25,7 +25,7 @@ no_bytes_by r (Some cause) snapshot events h = refl
 pub no_bytes : (o : Options) (x : Shape) → is_some (drop_of x.reader o.limits x.events) ≡ true → bytes_kept o x ≡ 0
 no_bytes o x h = no_bytes_by x.reader (drop_of x.reader o.limits x.events) (snapshot_in x.events) x.events h
 
-all_with : (o : Options) (y : Shape) (xs : List Shape) → all_bytes o (y ∷ xs) ≡ bytes_kept o y + all_bytes o xs
+pub all_with : (o : Options) (y : Shape) (xs : List Shape) → all_bytes o (y ∷ xs) ≡ bytes_kept o y + all_bytes o xs
 all_with o y xs = sum_by-cons (λ n. n) (bytes_kept o y) (map (bytes_kept o) xs)
 
 changed_by : (o : Options) (f : Shape → Shape) (xs : List Shape) (i : ℕ) (x : Shape) → slice_get xs i ≡ Some x → all_bytes o (change_at f xs i) + bytes_kept o x ≡ all_bytes o xs + bytes_kept o (f x)

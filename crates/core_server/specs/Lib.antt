@@ -5,3 +5,5 @@ pub mod Registers
 pub mod Snapshots
 pub mod SnapshotLaws
 pub mod Readied
+pub mod Effects
+pub mod Committing

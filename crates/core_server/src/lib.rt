@@ -2,6 +2,8 @@
 #![tactic(auto)]
 
 mod answering;
+mod commits;
+mod effect;
 mod registering;
 mod schema;
 mod server;

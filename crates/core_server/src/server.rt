@@ -63,7 +63,7 @@ impl Server {
         self.drop_number(number, Cause::Deleted);
     }
     /// A table has a new definition.
-    fn redefine(&mut self, definition: TableDef)
+    pub(crate) fn redefine(&mut self, definition: TableDef)
         requires new { IsNew self.old.tables definition }
         requires served { definition.table < length self.old.registry.state.catalog }
         ensures stands { Moves self.old (λ o v. with_registry v (events.Redefined definition)) self.new }

@@ -177,3 +177,30 @@ wide_of defs c d h e = subst (λ (o : Option TableDef). IsSomeAnd o (λ x. IsAsW
 pub if_ok : {A E : Type 0} (r : Result A E) (P Q : A → Type 0) → ((x : A) → P x → Q x) → IfOk r P → IfOk r Q
 if_ok (Ok x) P Q f h = f x h
 if_ok (Err e) P Q f h = tt
+
+-- ---- a commit of other tables
+
+none_of : (t : ℕ) (defs : List TableDef) (i : ℕ) → list_any (λ (d : TableDef). d.table == t) defs ≡ false → MatchOption (slice_get defs i) (Unit {0}) (λ d. (d.table == t) ≡ false)
+none_of t [] i h = tt
+none_of t (d ∷ ds) zero h = first (d.table == t) h
+  where
+    first : (b : Bool) → (b || list_any (λ (d : TableDef). d.table == t) ds) ≡ false → b ≡ false
+    first true h = h
+    first false h = refl
+none_of t (d ∷ ds) (suc i) h = none_of t ds i (rest (d.table == t) h)
+  where
+    rest : (b : Bool) → (b || list_any (λ (d : TableDef). d.table == t) ds) ≡ false → list_any (λ (d : TableDef). d.table == t) ds ≡ false
+    rest true h = cc
+    rest false h = h
+
+not_own : (t j : ℕ) (kind : ChangeKind) (o : Option TableDef) (rest : List Own) → MatchOption o (Unit {0}) (λ d. (d.table == t) ≡ false) → own_of t j kind o rest ≡ rest
+not_own t j kind None rest h = refl
+not_own t j kind (Some d) rest h = ap (λ (b : Bool). if b then record { number = j; definition = d; kind = kind } ∷ rest else rest) h
+
+none_own : (t : ℕ) (defs : List TableDef) (j : ℕ) (cs : List Change) → list_any (λ (d : TableDef). d.table == t) defs ≡ false → own_from t defs j cs ≡ []
+none_own t defs j [] h = refl
+none_own t defs j (c ∷ cs) h = not_own t j c.kind (slice_get defs c.def) (own_from t defs (j + 1) cs) (none_of t defs c.def h) ∙ none_own t defs (j + 1) cs h
+
+-- where none of its definitions is of a table, it has no changes of it
+pub no_changes : (t : ℕ) (tx : Tx) → list_any (λ (d : TableDef). d.table == t) tx.defs ≡ false → changes_of t tx ≡ []
+no_changes t tx h = none_own t tx.defs 0 tx.changes h

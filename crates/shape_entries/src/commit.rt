@@ -1,5 +1,5 @@
 //! The entries of a commit.
-ghost use Rattle.std.specs.Prelude.{◌≡◌, ◌<◌, ◌^◌, ◌++◌, [], true, not, is_none, IfOk, IfSome, OnOk, slice_get};
+ghost use Rattle.std.specs.Prelude.{◌≡◌, ◌<◌, ◌^◌, ◌++◌, ◌==◌, [], true, not, is_none, IfOk, IfSome, OnOk, slice_get};
 ghost use Rattle.std.specs.List.{list_any, flat_map};
 ghost use Rattle.std.specs.Option.{option_copied};
 ghost use Rattle.shape_base.specs.declared.change.ChangeKind.{ChangeKind};
@@ -101,9 +101,15 @@ fn add_change<T: RowTest>(
     }
 }
 
-/// The entries of a commit, change by change; or none exactly where one of its changes stops the shape: a truncation, a change under another definition, or one
-/// with a row that cannot be read.
-pub fn commit_entries<T: RowTest>(
+/// Whether one of the definitions is of a table.
+fn names_table(defs: &[TableDef], table: u32) -> bool
+    ensures { result ≡ list_any (λ d. d.table == table) defs.now }
+{
+    defs.iter().any(|def| def.table == table)
+}
+
+/// The entries of a commit, change by change; or none exactly where one of its changes stops the shape.
+fn changes_entries<T: RowTest>(
     alloc: Global,
     emitter: &Emitter<T>,
     tx: &Tx,
@@ -119,4 +125,21 @@ pub fn commit_entries<T: RowTest>(
         }
     }
     Ok(Some(made))
+}
+
+/// The entries of a commit; or none exactly where one of its changes stops the shape: a truncation, a change under another definition, or one with a row that cannot
+/// be read. Its changes are gone over only where one of its definitions is of the shape's table.
+pub fn commit_entries<T: RowTest>(
+    alloc: Global,
+    emitter: &Emitter<T>,
+    tx: &Tx,
+) -> Result<Option<Entries>, OutOfMemory>
+    requires { IsWhole tx.now }
+    ensures entries { IfOk result (λ found. IfSome found (λ es. es ≡ flat_map (emit (T.knows emitter.now.test) tx.now.lsn) (changes_of (T.knows emitter.now.test).definition.table tx.now))) }
+    ensures stops { IfOk result (λ found. is_none found ≡ list_any (stops (T.knows emitter.now.test)) (changes_of (T.knows emitter.now.test).definition.table tx.now)) }
+{
+    if !names_table(tx.defs.as_slice(), emitter.test().definition().table) {
+        return Ok(Some(Entries::new(alloc)));
+    }
+    changes_entries(alloc, emitter, tx)
 }

@@ -7,7 +7,7 @@ use Rattle.shape_base.specs.declared.cause.Cause.{Cause}
 use Rattle.shape_base.specs.declared.definition.TableDef.{TableDef}
 use Rattle.shape_base.specs.declared.registry_event.RegistryEvent.{RegistryEvent}
 use Rattle.shape_base.specs.declared.registry_event.RegistryEvent.TheVariants.{Registered, Ready, Removed, Took, Redefined}
-use Rattle.shape_base.specs.RegistryHistory.{RegistryStart, RegistryState, registrations, transactions, is_live, live_numbers, last_id, catalog_after, MayFollow, Stands}
+use Rattle.shape_base.specs.RegistryHistory.{RegistryStart, RegistryState, registrations, transactions, is_live, live_numbers, last_id, last_lsn, catalog_after, MayFollow, Stands}
 use Rattle.shape_registry.specs.declared.standing.Standing.TheVariants as standings
 use Rattle.shape_registry.specs.State.{live_at, standing_in, id_in, lsn_in, found_in, refusal_in, after}
 use Rattle.shape_registry.specs.ByHistory.{standing_after, before_after, found_after, refusal_after}
@@ -42,6 +42,9 @@ module _ (start : RegistryStart) (es : List RegistryEvent) (s : RegistryState) (
 
   pub last_by_history : id_in s ≡ last_id es
   last_by_history = ap id_in stands.kept
+
+  pub last_lsn_by_history : lsn_in s ≡ last_lsn es
+  last_lsn_by_history = ap lsn_in stands.kept
 
   pub taken_by_history : s.taken ≡ length (transactions es)
   taken_by_history = ap (λ s. s.taken) stands.kept

@@ -45,7 +45,7 @@ length_filter p (x ∷ xs) = pick (p x) (length_filter p xs)
 
 -- ---- induction along a legal history
 
-along : (limit : ℕ) (P : List RegistryEvent → Type 0) → ((es : List RegistryEvent) (e : RegistryEvent) → P es → MayFollow limit es e → P (es ++ e ∷ []))
+pub along : (limit : ℕ) (P : List RegistryEvent → Type 0) → ((es : List RegistryEvent) (e : RegistryEvent) → P es → MayFollow limit es e → P (es ++ e ∷ []))
     → (before es : List RegistryEvent) → P before → MayAllFollow limit before es → P (before ++ es)
 along limit P step before [] h all = subst P (sym (append-nil before)) h
 along limit P step before (e ∷ es) h all = subst P (append_assoc before (e ∷ []) es) (along limit P step (before ++ e ∷ []) es (step before e h all.0) all.1)

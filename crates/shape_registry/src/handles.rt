@@ -152,6 +152,16 @@ impl Handles {
         }
     }
 
+    /// The LSN of the last transaction taken; 0 where none was taken.
+    pub fn last_lsn(&self) -> u64
+        ensures { result ≡ lsn_in self.now }
+    {
+        match self.newest {
+            Some(taken) => taken.lsn,
+            None => 0,
+        }
+    }
+
     /// How many transactions were taken.
     pub fn taken(&self) -> u64
         ensures { result ≡ self.now.taken }

@@ -3,7 +3,7 @@ ghost use Rattle.std.specs.Prelude.{◌≡◌, ℕ, ◌+◌, ◌<◌, [], map, l
 ghost use Rattle.std.specs.Option.{option_map, option_copied, option_copied_mut};
 ghost use Rattle.std.specs.FinMap as fin;
 ghost use Rattle.shape_base.specs.declared.registry_event.RegistryEvent.TheVariants as events;
-ghost use Rattle.shape_base.specs.RegistryHistory.{Stands, is_live, live_numbers, live_registrations, last_id, transactions, definition_after};
+ghost use Rattle.shape_base.specs.RegistryHistory.{Stands, is_live, live_numbers, live_registrations, last_id, last_lsn, transactions, definition_after};
 ghost use Rattle.shape_registry.specs.State.{live_at, standing_in, id_in, lsn_in, found_in, refusal_in, after};
 ghost use Rattle.shape_registry.specs.ByHistory.{standing_after, before_after, found_after, refusal_after};
 ghost use Rattle.shape_registry.specs.Registry.{ByHistory, Adds, ArePlaced, IsRefused};
@@ -89,6 +89,14 @@ impl<K> Registry<K> {
         ensures by_history { ByHistory self.now.state (λ start es. result ≡ last_id es) }
     {
         self.handles.last()
+    }
+
+    /// The LSN of the last transaction that was taken; 0 where none was.
+    pub fn last_lsn(&self) -> u64
+        ensures last_lsn { result ≡ lsn_in self.now.state }
+        ensures by_history { ByHistory self.now.state (λ start es. result ≡ last_lsn es) }
+    {
+        self.handles.last_lsn()
     }
 
     /// How many transactions were taken.

@@ -1,0 +1,522 @@
+-- What a server stands for while a commit reaches its numbers.
+use Rattle.std.proofs.Common.{◌≡◌, ℕ, suc, ◌+◌, ◌-◌, ◌≤◌, ◌<◌, Bool, true, false, not, ◌||◌, ◌&&◌, ◌==◌, List, [], ◌∷◌, ◌++◌, length, take, get_or, refl, ap, ap₂, sym, ◌∙◌, subst, arith, Option, None, Some}
+use Rattle.std.specs.Bool.{if◌then◌else◌}
+use Rattle.std.specs.Prelude.{map, filter, is_some, unwrap_or, IfSome, IsSomeAnd, Result, Ok, Err, IfOk, OnOk, OnErr}
+use Rattle.std.specs.List.{list_any, last_or, range_with_len, AllByRecursion}
+use Rattle.std.specs.Option.{option_and_then, option_map, OnSome, IfNone}
+use Rattle.std.proofs.lemmas.List.{map-append, take_more}
+use Rattle.std.specs.FinMap as fin
+use Rattle.std.proofs.lemmas.Bool.Decides.{Decides-eqb}
+use Rattle.shape_base.specs.declared.cause.Cause.{Cause}
+use Rattle.shape_base.specs.declared.change.Tx.{Tx}
+use Rattle.shape_base.specs.declared.definition.TableDef.{TableDef}
+use Rattle.shape_base.specs.declared.registry_event.RegistryEvent.{RegistryEvent}
+use Rattle.shape_base.specs.declared.registry_event.RegistryEvent.TheVariants.{Removed, Redefined}
+use Rattle.shape_base.specs.declared.registry_event.RegistryEvent.TheVariants as events
+use Rattle.shape_base.specs.RegistryHistory as histories
+use Rattle.shape_base.specs.RegistryHistory.{RegistryStart, RegistryState, Registration, Taken, registrations, registration_in, transactions, transaction_in, was_registered, was_removed, had_ready, is_live, live_numbers}
+use Rattle.shape_json.specs.ShapeHistory.{ShapeEvent, Snapped, Took, Dropped, snapshot_in, taken, drop_of, state_after}
+use Rattle.shape_json.specs.ShapeHistory as shapes
+use Rattle.shape_registry.specs.State.{after}
+use Rattle.shape_registry.proofs.Growing.{part_stays, part_grows, any_more}
+use Rattle.shape_registry.proofs.Legal.{removed_stays, ready_stays}
+use Rattle.core_law.specs.Situation.{Options, Shape, shape_at, registry_start, log_of_shape}
+use Rattle.core_law.specs.Situation as law
+use Rattle.core_law.specs.Steps.{with_event, with_shape_event, with_registry, change_shape, redefined, definition_by, removed_for, bytes_kept, all_bytes, after_commit}
+use Rattle.core_law.specs.Waiting.{IsAsBefore}
+use Rattle.core_server.specs.declared.server.Server.{Server}
+use Rattle.core_server.specs.declared.effect.Effect.{Effect}
+use Rattle.core_server.specs.Standing.{Kept, reader_of, reader_in, IsKept, StandsFor, IsCatalog, Stands, IsSituated}
+use Rattle.shape_state.specs.Standing as standing
+use Rattle.shape_state.specs.Answers.{log_bytes}
+use Rattle.core_server.specs.Effects.{IsEffect, MayTake, HasTaken, others_of}
+use Rattle.core_server.specs.Committing.{noted, comes, reached_by, reached, reached_all, IsNewTo, IsTold, HasTakenUp, IsDue, AreApart, IsNoted, HasReached}
+use Rattle.core_server.proofs.Maps.{removed_apart, inserted_apart, inserted_here}
+use Rattle.core_server.proofs.Sums.{log_bytes_is, bytes_changed, bytes_among}
+use Rattle.core_server.proofs.Places.{shape_here, shape_apart, same_or_not}
+use Rattle.core_server.proofs.Changing.{Changes, stands_changed, stands_on}
+use Rattle.core_server.proofs.Dropping.{removed_here, removed_apart_from, same_last, here_removed, Live, live_shape}
+use Rattle.core_server.proofs.Passing.{passes, shapes_stay, registrations_stay, others_stay}
+use Rattle.core_server.proofs.Effects.{definition_all}
+use Rattle.core_server.proofs.Counting.{was_given, live_range}
+
+-- ---- the registry notes the commit
+
+last_of : (o : Option Taken) (xs : List Taken) (x : Taken) → last_or o (xs ++ x ∷ []) ≡ Some x
+last_of o [] x = refl
+last_of o (y ∷ xs) x = last_of (Some y) xs x
+
+last_with : (es : List RegistryEvent) (lsn xid : ℕ) → histories.last_lsn (es ++ events.Took lsn xid ∷ []) ≡ lsn
+last_with es lsn xid = let t : Taken = record { lsn = lsn; xid = xid } in
+    ap (λ (ts : List Taken). unwrap_or (option_map (λ (t : Taken). t.lsn) (last_or None ts)) 0) (part_grows transaction_in es (events.Took lsn xid) t refl)
+    ∙ ap (λ (a : Option Taken). unwrap_or (option_map (λ (t : Taken). t.lsn) a) 0) (last_of None (transactions es) t)
+
+-- the server where the registry alone has noted it
+pub record Notes (o : Options) (v : law.Server) (s t : Server) (tx : Tx) : Type 0 where
+  pub run : t.run ≡ s.run
+  pub limits : t.limits ≡ s.limits
+  pub tables : t.tables ≡ s.tables
+  pub registry : histories.Stands (registry_start o) (v.registry ++ events.Took tx.lsn tx.xid ∷ []) t.registry.state
+  pub catalog : t.registry.state.catalog ≡ s.registry.state.catalog
+  pub kept : t.registry.kept ≡ s.registry.kept
+  pub total : t.total ≡ s.total
+
+pub notes : (o : Options) (v : law.Server) (s t : Server) (tx : Tx) → Stands o v s → histories.last_lsn v.registry < tx.lsn → Notes o v s t tx → Stands o (noted v tx) t
+notes o v s t tx h later c = record {
+  run = c.run ∙ h.run;
+  limits = c.limits ∙ h.limits;
+  tables = c.tables ∙ h.tables;
+  registry = c.registry;
+  catalog = subst (IsCatalog o.tables) (sym c.catalog) h.catalog;
+  counted = ap length (part_stays registration_in v.registry (events.Took tx.lsn tx.xid) refl) ∙ h.counted;
+  known = λ m r. h.known m (sym (ap (λ (rs : List Registration). list_any (λ r. r.number == m) rs) (part_stays registration_in v.registry (events.Took tx.lsn tx.xid) refl)) ∙ r);
+  shapes = λ m x at. subst (StandsFor o (noted v tx) t m x) (sym (removed_stays v.registry (events.Took tx.lsn tx.xid) m refl))
+      (stands_on o v (noted v tx) s t m x (was_removed v.registry m) (ready_stays v.registry (events.Took tx.lsn tx.xid) m refl) (let e = last_with v.registry tx.lsn tx.xid in omega (arith, e, later)) (ap (λ k. fin.get k m) c.kept) (h.shapes m x at));
+  total = c.total ∙ h.total;
+}
+
+-- the events of a shape that is kept end before those of the registry
+kept_last : (o : Options) (v : law.Server) (s : Server) (n : ℕ) (x : Shape) (b : Bool) → b ≡ false → StandsFor o v s n x b → shapes.last_lsn x.events ≤ histories.last_lsn v.registry
+kept_last o v s n x true e h = cc
+kept_last o v s n x false e h = pick (fin.get s.registry.kept n) h
+  where
+    pick : (a : Option Kept) → IsSomeAnd a (IsKept o v n x) → shapes.last_lsn x.events ≤ histories.last_lsn v.registry
+    pick None h = absurd h
+    pick (Some k) h = h.last
+
+not_false : (a b : Bool) → (a && not b) ≡ true → b ≡ false
+not_false a true h = absurd (never a h)
+  where
+    never : (a : Bool) → (a && false) ≡ true → ⊥
+    never true h = cc
+    never false h = cc
+not_false a false h = refl
+
+live_noted : (v : law.Server) (tx : Tx) (n : ℕ) → is_live (noted v tx).registry n ≡ is_live v.registry n
+live_noted v tx n = ap₂ (λ a b. a && not b) (ap (λ (rs : List Registration). list_any (λ r. r.number == n) rs) (part_stays registration_in v.registry (events.Took tx.lsn tx.xid) refl)) (removed_stays v.registry (events.Took tx.lsn tx.xid) n refl)
+
+-- a commit that is after the registry's last is after all that any shape has
+pub all_new : (o : Options) (v : law.Server) (s : Server) (tx : Tx) (n : ℕ) → Stands o v s → histories.last_lsn v.registry < tx.lsn → IsNewTo (noted v tx) tx n
+all_new o v s tx n h later = record {
+  noted = let e = last_with v.registry tx.lsn tx.xid in omega (arith, e);
+  later = λ live. pick (shape_at v.shapes n) refl (not_false (was_registered v.registry n) (was_removed v.registry n) (sym (live_noted v tx n) ∙ live));
+}
+  where
+    pick : (a : Option Shape) → shape_at v.shapes n ≡ a → was_removed v.registry n ≡ false → IfSome a (λ x. shapes.last_lsn x.events < tx.lsn)
+    pick None at here = tt
+    pick (Some x) at here = let le = kept_last o v s n x (was_removed v.registry n) here (h.shapes n x at) in omega (arith, le, later)
+
+-- the commit that has reached all live numbers is the commit
+pub after_is : (o : Options) (v : law.Server) (s : Server) (tx : Tx) → Stands o v s → reached_all o tx (noted v tx) (live_numbers v.registry) ≡ after_commit o v tx
+after_is o v s tx h = ap (reached_all o tx (noted v tx)) (live_range o.limits.shapes v.registry h.registry.legal ∙ ap (λ k. filter (λ n. not (was_removed v.registry n)) (range_with_len 1 k)) h.counted)
+    ∙ passes o v.registry tx [] v.shapes (noted v tx) 1 refl refl (record {
+      removed = λ m le. removed_stays v.registry (events.Took tx.lsn tx.xid) m refl;
+      registered = λ m le lt. ap (λ (rs : List Registration). list_any (λ r. r.number == m) rs) (part_stays registration_in v.registry (events.Took tx.lsn tx.xid) refl)
+          ∙ was_given o.limits.shapes v.registry m h.registry.legal le (let c = h.counted in omega (arith, lt, c));
+    })
+
+-- ---- what the commit leaves as it was
+
+-- nothing happened to a number
+pub record IsStill (v w : law.Server) (m : ℕ) : Type 0 where
+  pub shape : shape_at w.shapes m ≡ shape_at v.shapes m
+  pub removed : was_removed w.registry m ≡ was_removed v.registry m
+  pub registered : was_registered w.registry m ≡ was_registered v.registry m
+  pub ready : had_ready w.registry m ≡ had_ready v.registry m
+  pub last : histories.last_lsn w.registry ≡ histories.last_lsn v.registry
+
+pub still_same : (v : law.Server) (m : ℕ) → IsStill v v m
+still_same v m = record { shape = refl; removed = refl; registered = refl; ready = refl; last = refl }
+
+pub still_trans : (u v w : law.Server) (m : ℕ) → IsStill u v m → IsStill v w m → IsStill u w m
+still_trans u v w m f g = record { shape = g.shape ∙ f.shape; removed = g.removed ∙ f.removed; registered = g.registered ∙ f.registered; ready = g.ready ∙ f.ready; last = g.last ∙ f.last }
+
+ready_stay : (v : law.Server) (tx : Tx) (n m : ℕ) (x : Shape) (c : Option Cause) → had_ready (removed_for v tx n x c).registry m ≡ had_ready v.registry m
+ready_stay v tx n m x None = refl
+ready_stay v tx n m x (Some cause) = pick (is_live v.registry n) (definition_by x.reader.knows tx cause)
+  where
+    pick : (b : Bool) (d : Option TableDef) → had_ready (if b then redefined (with_registry v (Removed n cause)) d else v).registry m ≡ had_ready v.registry m
+    pick true None = ready_stays v.registry (Removed n cause) m refl
+    pick true (Some d) = ready_stays (v.registry ++ Removed n cause ∷ []) (Redefined d) m refl ∙ ready_stays v.registry (Removed n cause) m refl
+    pick false d = refl
+
+last_stays : (v : law.Server) (tx : Tx) (n : ℕ) (x : Shape) (c : Option Cause) → histories.last_lsn (removed_for v tx n x c).registry ≡ histories.last_lsn v.registry
+last_stays v tx n x None = refl
+last_stays v tx n x (Some cause) = pick (is_live v.registry n) (definition_by x.reader.knows tx cause)
+  where
+    pick : (b : Bool) (d : Option TableDef) → histories.last_lsn (if b then redefined (with_registry v (Removed n cause)) d else v).registry ≡ histories.last_lsn v.registry
+    pick true None = same_last v.registry (Removed n cause) refl
+    pick true (Some d) = same_last (v.registry ++ Removed n cause ∷ []) (Redefined d) refl ∙ same_last v.registry (Removed n cause) refl
+    pick false d = refl
+
+still_by : (o : Options) (tx : Tx) (v : law.Server) (n m : ℕ) (a : Option Shape) → (n ≡ m → ⊥) → IsStill v (reached_by o tx v n a) m
+still_by o tx v n m None other = still_same v m
+still_by o tx v n m (Some x) other = let y = with_event (comes o v tx x) x in let w = with_shape_event v n (comes o v tx x) in let c = drop_of y.reader o.limits y.events in record {
+  shape = ap (λ xs. shape_at xs m) (shapes_stay w tx n y c) ∙ shape_apart (with_event (comes o v tx x)) v.shapes n m other;
+  removed = others_stay w tx n m y c other;
+  registered = ap (λ (rs : List Registration). list_any (λ r. r.number == m) rs) (registrations_stay w tx n y c);
+  ready = ready_stay w tx n m y c;
+  last = last_stays w tx n y c;
+}
+
+-- it leaves each other number as it was
+pub still_apart : (o : Options) (tx : Tx) (v : law.Server) (n m : ℕ) → (n ≡ m → ⊥) → IsStill v (reached o tx v n) m
+still_apart o tx v n m other = pick (is_live v.registry n)
+  where
+    pick : (b : Bool) → IsStill v (if b then reached_by o tx v n (shape_at v.shapes n) else v) m
+    pick true = still_by o tx v n m (shape_at v.shapes n) other
+    pick false = still_same v m
+
+pub as_before : (v w : law.Server) (m : ℕ) → IsStill v w m → IsAsBefore v w m
+as_before v w m h = record { removed = h.removed; ready = h.ready; log = ap log_of_shape h.shape }
+
+pub before_trans : (u v w : law.Server) (m : ℕ) → IsAsBefore u v m → IsAsBefore v w m → IsAsBefore u w m
+before_trans u v w m f g = record { removed = g.removed ∙ f.removed; ready = g.ready ∙ f.ready; log = g.log ∙ f.log }
+
+-- ---- many numbers
+
+either_false : (a b : Bool) → (a || b) ≡ false → (a ≡ false) × (b ≡ false)
+either_false true b h = cc
+either_false false b h = (refl, h)
+
+unequal : (n m : ℕ) → (n == m) ≡ false → n ≡ m → ⊥
+unequal n m e same = let t : (n == m) ≡ true = (Decides-eqb n m).1 same in cc
+
+-- it leaves a number that is not among these as it was
+pub still_all : (o : Options) (tx : Tx) (ns : List ℕ) (v : law.Server) (m : ℕ) → list_any (λ n. n == m) ns ≡ false → IsStill v (reached_all o tx v ns) m
+still_all o tx [] v m h = still_same v m
+still_all o tx (n ∷ ns) v m h = let b = either_false (n == m) (list_any (λ n. n == m) ns) h in
+    still_trans v (reached o tx v n) (reached_all o tx (reached o tx v n) ns) m (still_apart o tx v n m (unequal n m b.0)) (still_all o tx ns (reached o tx v n) m b.1)
+
+-- and the commit is new to it still
+pub new_still : (v w : law.Server) (tx : Tx) (m : ℕ) → IsStill v w m → IsNewTo v tx m → IsNewTo w tx m
+new_still v w tx m still new = record {
+  noted = let e = still.last in let n = new.noted in omega (arith, e, n);
+  later = λ live. subst (λ a. IfSome a (λ (x : Shape). shapes.last_lsn x.events < tx.lsn)) (sym still.shape) (new.later (sym (ap₂ (λ a b. a && not b) still.registered still.removed) ∙ live));
+}
+
+-- one number more
+pub reached_more : (o : Options) (tx : Tx) (ns : List ℕ) (v : law.Server) (n : ℕ) → reached_all o tx v (ns ++ n ∷ []) ≡ reached o tx (reached_all o tx v ns) n
+reached_more o tx [] v n = refl
+reached_more o tx (k ∷ ns) v n = reached_more o tx ns (reached o tx v k) n
+
+any_last : (ns : List ℕ) (n m : ℕ) → list_any (λ k. k == m) (ns ++ n ∷ []) ≡ (list_any (λ k. k == m) ns || (n == m))
+any_last ns n m = any_more (λ k. k == m) ns n
+
+pub told_with : (o : Options) (tx : Tx) (v w : law.Server) (told : List ℕ) (n : ℕ) → IsTold v w told → IsTold v (reached o tx w n) (told ++ n ∷ [])
+told_with o tx v w told n h m none = let b = either_false (list_any (λ k. k == m) told) (n == m) (sym (any_last told n m) ∙ none) in
+    before_trans v w (reached o tx w n) m (h m b.0) (as_before w (reached o tx w n) m (still_apart o tx w n m (unequal n m b.1)))
+
+pub told_without : (o : Options) (tx : Tx) (v w : law.Server) (told : List ℕ) (n : ℕ) → IsAsBefore w (reached o tx w n) n → IsTold v w told → IsTold v (reached o tx w n) told
+told_without o tx v w told n quiet h m none = before_trans v w (reached o tx w n) m (h m none)
+    (same_or_not n m (λ e. subst (λ k. IsAsBefore w (reached o tx w n) k) e quiet) (λ other. as_before w (reached o tx w n) m (still_apart o tx w n m other)))
+
+-- ---- one number
+
+snapshot_took : (es : List ShapeEvent) (tx : Tx) (others : ℕ) → snapshot_in (es ++ Took tx others ∷ []) ≡ snapshot_in es
+snapshot_took [] tx others = refl
+snapshot_took (Snapped s ∷ es) tx others = refl
+snapshot_took (Took t b ∷ es) tx others = snapshot_took es tx others
+snapshot_took (Dropped c ∷ es) tx others = snapshot_took es tx others
+
+taken_took : (es : List ShapeEvent) (tx : Tx) (others : ℕ) → taken (es ++ Took tx others ∷ []) ≡ taken es ++ tx ∷ []
+taken_took [] tx others = refl
+taken_took (Snapped s ∷ es) tx others = taken_took es tx others
+taken_took (Took t b ∷ es) tx others = ap (λ txs. t ∷ txs) (taken_took es tx others)
+taken_took (Dropped c ∷ es) tx others = taken_took es tx others
+
+last_number : (a : Option ℕ) (ns : List ℕ) (n : ℕ) → last_or a (ns ++ n ∷ []) ≡ Some n
+last_number a [] n = refl
+last_number a (k ∷ ns) n = last_number (Some k) ns n
+
+last_took : (es : List ShapeEvent) (tx : Tx) (others : ℕ) → shapes.last_lsn (es ++ Took tx others ∷ []) ≡ tx.lsn
+last_took es tx others = ap (λ (txs : List Tx). unwrap_or (last_or None (map (λ (tx : Tx). tx.lsn) txs)) 0) (taken_took es tx others)
+    ∙ ap (λ ns. unwrap_or (last_or None ns) 0) (map-append (λ (tx : Tx). tx.lsn) (taken es) (tx ∷ []))
+    ∙ ap (λ a. unwrap_or a 0) (last_number None (map (λ (tx : Tx). tx.lsn) (taken es)) tx.lsn)
+
+same_shape : (a : Option Shape) (x y : Shape) → a ≡ Some x → a ≡ Some y → x ≡ y
+same_shape a x y e f = cc
+
+kept_ready : (o : Options) (v : law.Server) (s : Server) (n : ℕ) (x : Shape) (b : Bool) → b ≡ false → StandsFor o v s n x b → is_some (snapshot_in x.events) ≡ had_ready v.registry n
+kept_ready o v s n x true e h = cc
+kept_ready o v s n x false e h = pick (fin.get s.registry.kept n) h
+  where
+    pick : (a : Option Kept) → IsSomeAnd a (IsKept o v n x) → is_some (snapshot_in x.events) ≡ had_ready v.registry n
+    pick None h = absurd h
+    pick (Some k) h = h.ready
+
+module _ (o : Options) (v : law.Server) (tx : Tx) (n : ℕ) (s t : Server) (e : Effect) (h : Stands o v s) (u : HasTakenUp o v tx n s t e) where
+  -- the shape, with the commit
+  abbrev event : ShapeEvent
+  event = comes o v tx u.shape
+
+  abbrev with_it : Shape
+  with_it = with_event event u.shape
+
+  abbrev taken_up : law.Server
+  taken_up = with_shape_event v n event
+
+  not_removed : was_removed v.registry n ≡ false
+  not_removed = not_false (was_registered v.registry n) (was_removed v.registry n) u.live
+
+  -- what the commit makes of the server
+  pub reached_is : (c : Option Cause) → e.cause ≡ c → reached o tx v n ≡ removed_for taken_up tx n with_it c
+  reached_is c is = ap (λ (b : Bool). if b then reached_by o tx v n (shape_at v.shapes n) else v) u.live ∙ ap (reached_by o tx v n) u.at ∙ ap (removed_for taken_up tx n with_it) (sym u.effect.cause ∙ is)
+
+  sum_is : t.total ≡ all_bytes o taken_up.shapes
+  sum_is = let a = u.total in let b = u.effect.total in let c = log_bytes_is (state_after u.shape.reader o.limits with_it.events) in
+      let d = bytes_changed o (with_event event) v.shapes n u.shape u.at in let among = bytes_among o v.shapes n u.shape u.at in omega (arith, a, b, c, d, among)
+
+  -- a server in which nothing else has changed
+  changes : (w : law.Server) (q : Server) → q.run ≡ t.run → q.limits ≡ t.limits → q.tables ≡ t.tables → histories.Stands (registry_start o) w.registry q.registry.state → q.registry.state.catalog ≡ t.registry.state.catalog
+      → registrations w.registry ≡ registrations v.registry → w.shapes ≡ taken_up.shapes → ((m : ℕ) → (n ≡ m → ⊥) → was_removed w.registry m ≡ was_removed v.registry m) → ((m : ℕ) → had_ready w.registry m ≡ had_ready v.registry m)
+      → histories.last_lsn w.registry ≡ histories.last_lsn v.registry → ((m : ℕ) → (n ≡ m → ⊥) → fin.get q.registry.kept m ≡ fin.get t.registry.kept m) → q.total ≡ t.total → StandsFor o w q n with_it (was_removed w.registry n) → Stands o w q
+  changes w q run limits tables registry catalog registered same removed ready last kept total here = stands_changed o v w s q n (with_event event) (record {
+    run = run ∙ u.run;
+    limits = limits ∙ u.limits;
+    tables = tables ∙ u.tables;
+    registry = registry;
+    catalog = subst (IsCatalog o.tables) (sym (catalog ∙ ap (λ st. st.catalog) u.state)) h.catalog;
+    registered = registered;
+    shapes = same;
+    removed = removed;
+    ready = λ m other. ready m;
+    last = omega (arith, last);
+    kept = λ m other. kept m other ∙ ap (λ k. fin.get k m) u.put ∙ inserted_apart s.registry.kept n u.kept m other;
+    here = λ x at. subst (λ y. StandsFor o w q n (with_event event y) (was_removed w.registry n)) (same_shape (shape_at v.shapes n) u.shape x u.at at) here;
+    total = total ∙ sum_is ∙ ap (all_bytes o) (sym same);
+  }) h
+
+  is_kept : tx.lsn ≤ histories.last_lsn v.registry → e.cause ≡ None → IsKept o taken_up n with_it u.kept
+  is_kept noted none = record {
+    reader = u.reader;
+    limits = u.its_limits;
+    stands = u.stands;
+    lives = sym u.effect.cause ∙ none;
+    ready = ap is_some (snapshot_took u.shape.events tx (all_bytes o v.shapes - bytes_kept o u.shape)) ∙ kept_ready o v s n u.shape (was_removed v.registry n) not_removed (h.shapes n u.shape u.at);
+    last = let l = last_took u.shape.events tx (all_bytes o v.shapes - bytes_kept o u.shape) in omega (arith, l, noted);
+  }
+
+  kept_if : (b : Bool) → b ≡ false → tx.lsn ≤ histories.last_lsn v.registry → e.cause ≡ None → StandsFor o taken_up t n with_it b
+  kept_if true is noted none = cc
+  kept_if false is noted none = subst (λ a. IsSomeAnd a (IsKept o taken_up n with_it)) (sym (ap (λ k. fin.get k n) u.put ∙ inserted_here s.registry.kept n u.kept)) (is_kept noted none)
+
+  -- the shape goes on
+  pub goes_on : tx.lsn ≤ histories.last_lsn v.registry → e.cause ≡ None → Stands o (reached o tx v n) t
+  goes_on noted none = subst (λ w. Stands o w t) (sym (reached_is None none))
+      (changes taken_up t refl refl refl (subst (histories.Stands (registry_start o) v.registry) (sym u.state) h.registry) refl refl refl (λ m other. refl) (λ m. refl) refl (λ m other. refl) refl
+      (kept_if (was_removed v.registry n) not_removed noted none))
+
+  -- it is removed
+  pub goes_away : (q : Server) (cause : Cause) → e.cause ≡ Some cause → q.run ≡ t.run → q.limits ≡ t.limits → q.tables ≡ t.tables → histories.Stands (registry_start o) (v.registry ++ Removed n cause ∷ []) q.registry.state
+      → q.registry.state.catalog ≡ t.registry.state.catalog → q.registry.kept ≡ fin.remove t.registry.kept n → q.total ≡ t.total → Stands o (with_registry taken_up (Removed n cause)) q
+  goes_away q cause is run limits tables registry catalog kept total = changes (with_registry taken_up (Removed n cause)) q run limits tables registry catalog
+      (part_stays registration_in v.registry (Removed n cause) refl) refl (λ m other. removed_apart_from v.registry n m cause other) (λ m. ready_stays v.registry (Removed n cause) m refl) (same_last v.registry (Removed n cause) refl)
+      (λ m other. ap (λ k. fin.get k m) kept ∙ removed_apart t.registry.kept n m other) total
+      (here_removed o (with_registry taken_up (Removed n cause)) q n with_it (was_removed (v.registry ++ Removed n cause ∷ []) n) (removed_here v.registry n cause) (ap is_some (sym u.effect.cause ∙ is)))
+
+  pub removed_is : (cause : Cause) → e.cause ≡ Some cause → reached o tx v n ≡ redefined (with_registry taken_up (Removed n cause)) e.definition
+  removed_is cause is = reached_is (Some cause) is
+      ∙ ap (λ (b : Bool). if b then redefined (with_registry taken_up (Removed n cause)) (definition_by u.shape.reader.knows tx cause) else taken_up) u.live
+      ∙ ap (redefined (with_registry taken_up (Removed n cause))) (sym (u.effect.definition ∙ ap (option_and_then (definition_by u.shape.reader.knows tx)) (sym u.effect.cause ∙ is)))
+
+  -- where nothing is told, no answer can tell
+  pub quiet_is : e.tells ≡ false → IsAsBefore v (reached o tx v n) n
+  quiet_is quiet = subst (λ w. IsAsBefore v w n) (sym (reached_is None (u.effect.cause ∙ u.effect.lives quiet))) (record {
+    removed = refl;
+    ready = refl;
+    log = ap log_of_shape (shape_here (with_event event) v.shapes n ∙ ap (option_map (with_event event)) u.at) ∙ u.effect.quiet quiet ∙ ap log_of_shape (sym u.at);
+  })
+
+-- a number that is not live is not reached
+pub not_reached : (o : Options) (tx : Tx) (v : law.Server) (n : ℕ) → is_live v.registry n ≡ false → reached o tx v n ≡ v
+not_reached o tx v n dead = ap (λ (b : Bool). if b then reached_by o tx v n (shape_at v.shapes n) else v) dead
+
+-- ---- a shape that is kept
+
+module _ (o : Options) (v : law.Server) (s : Server) (n : ℕ) (k : Kept) (h : Stands o v s) (live : is_live v.registry n ≡ true) (there : fin.get s.registry.kept n ≡ Some k) where
+  pub lives_here : Live o v s n k
+  lives_here = live_shape o v s n k h live there
+
+  -- the bytes of its log
+  pub log_kept : log_bytes (state_after (reader_in k) k.state.limits lives_here.shape.events) ≡ bytes_kept o lives_here.shape
+  log_kept = ap (λ r. log_bytes (state_after r k.state.limits lives_here.shape.events)) (sym lives_here.kept.reader) ∙ ap (λ l. log_bytes (state_after lives_here.shape.reader l lives_here.shape.events)) lives_here.kept.limits
+      ∙ log_bytes_is (state_after lives_here.shape.reader o.limits lives_here.shape.events)
+
+  later_by : (tx : Tx) (a : Option Shape) (x : Shape) → a ≡ Some x → IfSome a (λ x. shapes.last_lsn x.events < tx.lsn) → shapes.last_lsn x.events < tx.lsn
+  later_by tx a x at h = subst (λ a. IfSome a (λ (x : Shape). shapes.last_lsn x.events < tx.lsn)) at h
+
+  pub may_take : (tx : Tx) → IsNewTo v tx n → MayTake k lives_here.shape.events tx s.total
+  may_take tx new = record {
+    stands = subst (λ r. standing.Stands r k.state lives_here.shape.events) lives_here.kept.reader lives_here.kept.stands;
+    lives = ap (λ r. drop_of r k.state.limits lives_here.shape.events) (sym lives_here.kept.reader) ∙ ap (λ l. drop_of lives_here.shape.reader l lives_here.shape.events) lives_here.kept.limits ∙ lives_here.kept.lives;
+    later = later_by tx (shape_at v.shapes n) lives_here.shape lives_here.at (new.later live);
+    among = let a = bytes_among o v.shapes n lives_here.shape lives_here.at in let b = log_kept in let c = h.total in omega (arith, a, b, c);
+  }
+
+  pub others_is : others_of k lives_here.shape.events s.total ≡ all_bytes o v.shapes - bytes_kept o lives_here.shape
+  others_is = ap₂ (λ a b. a - b) h.total log_kept
+
+module _ (o : Options) (v : law.Server) (s t : Server) (n : ℕ) (k k2 : Kept) (h : Stands o v s) (live : is_live v.registry n ≡ true) (there : fin.get s.registry.kept n ≡ Some k)
+    (run : t.run ≡ s.run) (limits : t.limits ≡ s.limits) (tables : t.tables ≡ s.tables) (state : t.registry.state ≡ s.registry.state) (put : t.registry.kept ≡ fin.insert s.registry.kept n k2)
+    (test : k2.emitter.test ≡ k.emitter.test) (its_limits : k2.state.limits ≡ k.state.limits) where
+  abbrev here : Live o v s n k
+  here = lives_here o v s n k h live there
+
+  reader_then : here.shape.reader ≡ reader_in k2
+  reader_then = here.kept.reader ∙ sym (ap reader_of test)
+
+  -- it has taken the commit
+  pub takes_up : (tx : Tx) (e : Effect) → IsNewTo v tx n → ((events : List ShapeEvent) → MayTake k events tx s.total → HasTaken k k2 events tx s.total e) → t.total ≡ e.total → HasTakenUp o v tx n s t e
+  takes_up tx e new takes total = let x = here.shape in let taken = takes x.events ((may_take o v s n k h live there tx new)) in record {
+    live = live;
+    shape = x;
+    at = here.at;
+    run = run;
+    limits = limits;
+    tables = tables;
+    state = state;
+    kept = k2;
+    put = put;
+    reader = reader_then;
+    its_limits = its_limits ∙ here.kept.limits;
+    stands = subst (λ r. standing.Stands r k2.state (x.events ++ comes o v tx x ∷ [])) (sym here.kept.reader) (subst (λ n. standing.Stands (reader_in k) k2.state (x.events ++ Took tx n ∷ [])) (others_is o v s n k h live there) taken.stands);
+    effect = subst (λ r. IsEffect r o.limits x.events tx (all_bytes o v.shapes - bytes_kept o x) e) (sym here.kept.reader)
+        (subst (λ l. IsEffect (reader_in k) l x.events tx (all_bytes o v.shapes - bytes_kept o x) e) here.kept.limits (subst (λ n. IsEffect (reader_in k) k.state.limits x.events tx n e) (others_is o v s n k h live there) taken.effect));
+    total = total;
+  }
+
+  stays_kept : ((events : List ShapeEvent) → standing.Stands (reader_in k) k.state events → standing.Stands (reader_in k) k2.state events) → IsKept o v n here.shape k2
+  stays_kept still = record {
+    reader = reader_then;
+    limits = its_limits ∙ here.kept.limits;
+    stands = subst (λ r. standing.Stands r k2.state here.shape.events) (sym here.kept.reader) (still here.shape.events (subst (λ r. standing.Stands r k.state here.shape.events) here.kept.reader here.kept.stands));
+    lives = here.kept.lives;
+    ready = here.kept.ready;
+    last = here.kept.last;
+  }
+
+  stays_for : (b : Bool) → b ≡ false → IsKept o v n here.shape k2 → StandsFor o v t n here.shape b
+  stays_for true e is = cc
+  stays_for false e is = subst (λ a. IsSomeAnd a (IsKept o v n here.shape)) (sym (ap (λ k. fin.get k n) put ∙ inserted_here s.registry.kept n k2)) is
+
+  -- it stands for the same events
+  pub stays : ((events : List ShapeEvent) → standing.Stands (reader_in k) k.state events → standing.Stands (reader_in k) k2.state events) → t.total ≡ s.total → Stands o v t
+  stays still total = record {
+    run = run ∙ h.run;
+    limits = limits ∙ h.limits;
+    tables = tables ∙ h.tables;
+    registry = subst (histories.Stands (registry_start o) v.registry) (sym state) h.registry;
+    catalog = subst (IsCatalog o.tables) (sym (ap (λ st. st.catalog) state)) h.catalog;
+    counted = h.counted;
+    known = h.known;
+    shapes = λ m y at. same_or_not n m
+        (λ e. subst (λ m. shape_at v.shapes m ≡ Some y → StandsFor o v t m y (was_removed v.registry m)) e
+        (λ at. subst (λ z. StandsFor o v t n z (was_removed v.registry n)) (same_shape (shape_at v.shapes n) here.shape y here.at at)
+        (stays_for (was_removed v.registry n) (not_false (was_registered v.registry n) (was_removed v.registry n) live) (stays_kept still))) at)
+        (λ other. stands_on o v v s t m y (was_removed v.registry m) refl (omega arith) (ap (λ k. fin.get k m) put ∙ inserted_apart s.registry.kept n k2 m other) (h.shapes m y at));
+    total = total ∙ h.total;
+  }
+
+-- the new definition of a table is one of the commit's
+pub definition_new : (P : TableDef → Type 0) (o : Options) (v : law.Server) (tx : Tx) (n : ℕ) (s t : Server) (e : Effect) → HasTakenUp o v tx n s t e → AllByRecursion P tx.defs → IfSome e.definition P
+definition_new P o v tx n s t e u all = subst (λ a. IfSome a P) (sym u.effect.definition) (definition_all P u.shape.reader.knows tx (drop_of u.shape.reader o.limits (u.shape.events ++ comes o v tx u.shape ∷ [])) all)
+
+-- ---- what a registry gives back
+
+pub some_back : {K : Type 0} (r : Option K) {P : Type 0} → is_some r ≡ true → OnSome r P → P
+some_back None e h = cc
+some_back (Some k) e h = h
+
+pub catalog_back : {K : Type 0} (r : Option K) (old new : RegistryState) {P : Type 0} (n : ℕ) (cause : Cause) → OnSome r (new ≡ after old (Removed n cause)) → IfNone r P → (P → new ≡ old) → new.catalog ≡ old.catalog
+catalog_back None old new n cause h g same = ap (λ (st : RegistryState). st.catalog) (same g)
+catalog_back (Some k) old new n cause h g same = ap (λ (st : RegistryState). st.catalog) h
+
+-- ---- many numbers, step by step
+
+-- how far the commit has come
+pub record HasCome (s : Server) (tx : Tx) (ns : List ℕ) (i : ℕ) (t : Server) (told : List ℕ) : Type 0 where
+  pub come : (o : Options) (v : law.Server) → Stands o v s → ((n : ℕ) → IsNewTo v tx n) → HasReached o v tx (take i ns) t told
+  pub tables : t.tables ≡ s.tables
+
+pub nothing_yet : (s : Server) (tx : Tx) (ns : List ℕ) → HasCome s tx ns 0 s []
+nothing_yet s tx ns = record {
+  come = λ o v h new. record { stands = h; told = λ m none. record { removed = refl; ready = refl; log = refl } };
+  tables = refl;
+}
+
+-- the commit is new to the next number
+pub next_new : (o : Options) (v : law.Server) (tx : Tx) (ns : List ℕ) (i n : ℕ) → AreApart ns → i < length ns → n ≡ get_or ns i 0 → ((n : ℕ) → IsNewTo v tx n) → IsNewTo (reached_all o tx v (take i ns)) tx n
+next_new o v tx ns i n apart lt is new = new_still v (reached_all o tx v (take i ns)) tx n (still_all o tx (take i ns) v n (ap (λ k. list_any (λ m. m == k) (take i ns)) is ∙ apart i lt)) (new n)
+
+-- one number more
+pub one_further : (s : Server) (tx : Tx) (ns : List ℕ) (i n : ℕ) (t t2 : Server) (told more : List ℕ) → AreApart ns → i < length ns → n ≡ get_or ns i 0 → HasCome s tx ns i t told
+    → ((o : Options) (v : law.Server) → Stands o v t → IsNewTo v tx n → Stands o (reached o tx v n) t2) → t2.tables ≡ t.tables
+    → ((o : Options) (v w : law.Server) → Stands o w t → IsNewTo w tx n → IsTold v w told → IsTold v (reached o tx w n) more) → HasCome s tx ns (i + 1) t2 more
+one_further s tx ns i n t t2 told more apart lt is h reaches tables tells = record {
+  come = λ o v st new. let w = reached_all o tx v (take i ns) in let c = h.come o v st new in let due = next_new o v tx ns i n apart lt is new in
+      let same : reached_all o tx v (take (i + 1) ns) ≡ reached o tx w n = ap (reached_all o tx v) (take_more ns i 0 lt ∙ ap (λ k. take i ns ++ k ∷ []) (sym is)) ∙ reached_more o tx (take i ns) v n in
+      record {
+        stands = subst (λ z. Stands o z t2) (sym same) (reaches o w c.stands due);
+        told = subst (λ z. IsTold v z more) (sym same) (tells o v w c.stands due c.told);
+      };
+  tables = tables ∙ h.tables;
+}
+
+-- the commit is due at the next number
+pub due_next : (s : Server) (tx : Tx) (ns : List ℕ) (i n : ℕ) (t : Server) (told : List ℕ) → AreApart ns → i < length ns → n ≡ get_or ns i 0 → HasCome s tx ns i t told → IsNoted s tx → IsDue t tx n
+due_next s tx ns i n t told apart lt is h noted = record {
+  options = noted.options;
+  situation = reached_all noted.options tx noted.situation (take i ns);
+  stands = (h.come noted.options noted.situation noted.stands noted.later).stands;
+  later = next_new noted.options noted.situation tx ns i n apart lt is noted.later;
+}
+
+-- the server stands for some situation all the while
+pub still_situated : (s : Server) (tx : Tx) (ns : List ℕ) (i : ℕ) (t : Server) (told : List ℕ) → HasCome s tx ns i t told → IsNoted s tx → IsSituated t
+still_situated s tx ns i t told h noted = record {
+  options = noted.options;
+  situation = reached_all noted.options tx noted.situation (take i ns);
+  stands = (h.come noted.options noted.situation noted.stands noted.later).stands;
+}
+
+-- ---- the whole commit
+
+noted_before : (v : law.Server) (tx : Tx) (n : ℕ) → IsAsBefore v (noted v tx) n
+noted_before v tx n = record { removed = removed_stays v.registry (events.Took tx.lsn tx.xid) n refl; ready = ready_stays v.registry (events.Took tx.lsn tx.xid) n refl; log = refl }
+
+-- what the commit leaves where it has reached the live numbers
+pub after_stands : (o : Options) (v : law.Server) (s t : Server) (tx : Tx) (ns answer : List ℕ) → Stands o v s → ns ≡ live_numbers v.registry → HasReached o (noted v tx) tx ns t answer → Stands o (after_commit o v tx) t
+after_stands o v s t tx ns answer h is r = subst (λ w. Stands o w t) (ap (reached_all o tx (noted v tx)) is ∙ after_is o v s tx h) r.stands
+
+pub after_told : (o : Options) (v : law.Server) (s t : Server) (tx : Tx) (ns answer : List ℕ) → Stands o v s → ns ≡ live_numbers v.registry → HasReached o (noted v tx) tx ns t answer → IsTold v (after_commit o v tx) answer
+after_told o v s t tx ns answer h is r = subst (λ w. IsTold v w answer) (ap (reached_all o tx (noted v tx)) is ∙ after_is o v s tx h)
+    (λ n none. before_trans v (noted v tx) (reached_all o tx (noted v tx) ns) n (noted_before v tx n) (r.told n none))
+
+pub both_ok : {T E : Type 0} (r : Result T E) {P : T → Type 0} {Q R : Type 0} → IfOk r P → OnOk r Q → ((x : T) → P x → Q → R) → OnOk r R
+both_ok (Ok x) p q go = go x p q
+both_ok (Err e) p q go = tt
+
+pub if_ok : {T E : Type 0} (r : Result T E) {P : T → Type 0} {R : Type 0} → IfOk r P → ((x : T) → P x → R) → OnOk r R
+if_ok (Ok x) p go = go x p
+if_ok (Err e) p go = tt
+
+-- ---- small steps of the calls
+
+-- the registry from which the number was removed
+pub away : (o : Options) (v : law.Server) (tx : Tx) (n : ℕ) (s t : Server) (e : Effect) (h : Stands o v s) (u : HasTakenUp o v tx n s t e) (q : Server) (cause : Cause) → e.cause ≡ Some cause → q.run ≡ t.run → q.limits ≡ t.limits → q.tables ≡ t.tables
+    → ((start : RegistryStart) (es : List RegistryEvent) → histories.Stands start es t.registry.state → is_live es n ≡ true → histories.Stands start (es ++ Removed n cause ∷ []) q.registry.state)
+    → q.registry.state.catalog ≡ t.registry.state.catalog → q.registry.kept ≡ fin.remove t.registry.kept n → q.total ≡ t.total → Stands o (with_registry (with_shape_event v n (comes o v tx u.shape)) (Removed n cause)) q
+away o v tx n s t e h u q cause is run limits tables removed catalog kept total = goes_away o v tx n s t e h u q cause is run limits tables
+    (removed (registry_start o) v.registry (subst (histories.Stands (registry_start o) v.registry) (sym u.state) h.registry) u.live) catalog kept total
+
+pub on_some_is : {A : Type 0} (r : Option A) (x : A) {P : Type 0} → r ≡ Some x → OnSome r P → P
+on_some_is r x {P} is h = subst (λ r. OnSome r P) is h
+
+pub on_any_err : {T E : Type 0} (r : Result T E) {P : Type 0} → P → OnErr r P
+on_any_err (Ok x) p = tt
+on_any_err (Err e) p = p
+
+pub told_if : (o : Options) (tx : Tx) (v w : law.Server) (told : List ℕ) (n : ℕ) (b : Bool) (more : List ℕ) → more ≡ (if b then told ++ n ∷ [] else told) → (b ≡ false → IsAsBefore w (reached o tx w n) n) → IsTold v w told → IsTold v (reached o tx w n) more
+told_if o tx v w told n true more is quiet h = subst (IsTold v (reached o tx w n)) (sym is) (told_with o tx v w told n h)
+told_if o tx v w told n false more is quiet h = subst (IsTold v (reached o tx w n)) (sym is) (told_without o tx v w told n (quiet refl) h)
