@@ -135,6 +135,9 @@ fn push_values(out: &mut Vec<u8>, key: &[u32], row: &Row) -> Result<(), OutOfMem
     Ok(())
 }
 
+/// The room that a key text begins with, in bytes: enough for most, so that it seldom grows.
+const KEY_ROOM: usize = 64;
+
 /// The front of each key text of a table: its namespace and its name in quotes, joined by a dot.
 fn table_front(alloc: Global, served: &Served) -> Result<Vec<u8>, OutOfMemory>
     ensures front { IfOk result (λ front. front.items ≡ quoted served.now.ns ++ 46 ∷ quoted served.now.name) }
@@ -142,7 +145,7 @@ fn table_front(alloc: Global, served: &Served) -> Result<Vec<u8>, OutOfMemory>
     ensures name { IfOk result (λ front. IsUtf8 served.now.name) }
     ensures utf8 { IfOk result (λ front. IsUtf8 front.items) }
 {
-    let mut front = Vec::new(alloc);
+    let mut front = Vec::with_capacity(alloc, KEY_ROOM)?;
     let ns = served.ns.as_bytes();
     let name = served.name.as_bytes();
     push_quoted(&mut front, ns)?;

@@ -1,10 +1,8 @@
 -- Entries written, and lines appended.
-use Rattle.std.proofs.Common.{◌≡◌, ℕ, suc, ◌+◌, ◌-◌, ◌<◌, ◌≤◌, true, List, [], ◌∷◌, ◌++◌, length, map, take, drop, get_or, refl, sym, ap, ap₂, subst, ◌∙◌, arith, append_assoc, append-nil, length-append}
-use Rattle.std.specs.List.{sum, flat_map}
-use Rattle.std.proofs.Math.Seq.{take-append_seam, drop-append_seam}
-use Rattle.std.proofs.lemmas.Grind.{flat_map-append}
+use Rattle.std.proofs.Common.{◌≡◌, ℕ, suc, ◌+◌, ◌-◌, ◌<◌, ◌≤◌, true, List, [], ◌∷◌, ◌++◌, length, map, take, drop, get_or, refl, sym, ap, ap₂, subst, ◌∙◌, arith, append_assoc, append-nil}
+use Rattle.std.specs.List.{sum}
 use Rattle.std.proofs.lemmas.Bool.{and_parts}
-use Rattle.std.proofs.lemmas.List.{take_more, map-append, length-take-le, length-drop}
+use Rattle.std.proofs.lemmas.List.{nil_from_length, take_more, take_all, take-append-le, drop-append-le, map-append, length-take-le, length-drop}
 use Rattle.std.proofs.lemmas.List.Sums.{sum_by-append}
 use Rattle.shape_base.specs.declared.offset.Offset.{Offset}
 use Rattle.shape_base.specs.declared.offset.Offset.TheVariants.{At}
@@ -22,25 +20,8 @@ use Rattle.chunked_log.specs.Chunked.{offsets_of}
 abbrev pub line_of : Entry → Line
 line_of e = record { offset = e.offset; size = length (entry_text e) }
 
-abbrev pub all_texts : List Entry → List ℕ
-all_texts es = flat_map entry_text es
-
-pub texts_written : (es : List Entry) → texts_in (map line_of es) (all_texts es) ≡ map entry_text es
-texts_written [] = refl
-texts_written (e ∷ es) =
-    ap₂ (λ (x : List ℕ) (xs : List (List ℕ)). x ∷ xs) (take-append_seam (entry_text e) (all_texts es))
-    (ap (texts_in (map line_of es)) (drop-append_seam (entry_text e) (all_texts es)) ∙ texts_written es)
-
-pub offsets_written : (es : List Entry) → offsets_in (map line_of es) ≡ offsets_of es
-offsets_written [] = refl
-offsets_written (e ∷ es) = ap (λ (os : List Offset). e.offset ∷ os) (offsets_written es)
-
 sum_first : (n : ℕ) (ns : List ℕ) → sum (n ∷ ns) ≡ n + sum ns
 sum_first n ns = sum_by-append (λ x. x) (n ∷ []) ns ∙ ap (λ (m : ℕ). m + sum ns) (let e : sum (n ∷ []) ≡ n = omega arith in e)
-
-pub size_written : (es : List Entry) → size_in (map line_of es) ≡ length (all_texts es)
-size_written [] = refl
-size_written (e ∷ es) = omega (arith, sum_first (length (entry_text e)) (sizes_in (map line_of es)), size_written es, length-append (entry_text e) (all_texts es))
 
 -- ---- lines
 
@@ -103,16 +84,6 @@ sum_texts (l ∷ ls) bytes h =
 
 -- ---- one more
 
--- one entry more is written
-pub written_more : (lines new_lines : List Line) (buffer new_buffer : List ℕ) (es : List Entry) (i : ℕ) (e : Entry) (size : ℕ) → i < length es → e ≡ get_or es i e
-    → lines ≡ map line_of (take i es) → buffer ≡ all_texts (take i es) → new_lines ≡ lines ++ (record { offset = e.offset; size = size }) ∷ [] → new_buffer ≡ buffer ++ entry_text e → size ≡ length (entry_text e)
-    → (new_lines ≡ map line_of (take (i + 1) es)) × (new_buffer ≡ all_texts (take (i + 1) es))
-written_more lines new_lines buffer new_buffer es i e size lt is el eb nl nb es_ =
-    let next : take (i + 1) es ≡ take i es ++ e ∷ [] = take_more es i e lt ∙ ap (λ (x : Entry). take i es ++ x ∷ []) (sym is) in (
-      nl ∙ ap₂ (λ (ls : List Line) (n : ℕ). ls ++ (record { offset = e.offset; size = n }) ∷ []) el es_ ∙ sym (map-append line_of (take i es) (e ∷ [])) ∙ ap (map line_of) (sym next),
-      nb ∙ ap₂ (λ (xs ys : List ℕ). xs ++ ys) eb (sym (append-nil (entry_text e))) ∙ sym (flat_map-append entry_text (take i es) (e ∷ [])) ∙ ap all_texts (sym next),
-    )
-
 -- the size of a line more
 pub sizes_more : (ls : List Line) (i : ℕ) (d : Line) → i < length ls → sizes_in (take (i + 1) ls) ≡ sizes_in (take i ls) ++ (get_or ls i d).size ∷ []
 sizes_more ls i d lt = ap sizes_in (take_more ls i d lt) ∙ map-append (λ (l : Line). l.size) (take i ls) (get_or ls i d ∷ [])
@@ -124,3 +95,28 @@ sizes_texts (l ∷ ls) bytes h =
     let first = size_first l ls in
     let left : length (drop l.size bytes) ≡ length bytes - l.size = length-drop l.size bytes in
     ap₂ (λ (n : ℕ) (ns : List ℕ). n ∷ ns) (length-take-le l.size bytes (omega (arith, first, h))) (sizes_texts ls (drop l.size bytes) (omega (arith, first, h, left)))
+
+-- ---- one text more
+
+sum_last : (ns : List ℕ) (n : ℕ) → sum (ns ++ n ∷ []) ≡ sum ns + n
+sum_last ns n = sum_by-append (λ x. x) ns (n ∷ []) ∙ ap (λ (m : ℕ). sum ns + m) (let e : sum (n ∷ []) ≡ n = omega arith in e)
+
+pub size_last : (ls : List Line) (l : Line) → size_in (ls ++ l ∷ []) ≡ size_in ls + l.size
+size_last ls l = ap sum (map-append (λ (k : Line). k.size) ls (l ∷ [])) ∙ sum_last (sizes_in ls) l.size
+
+pub texts_last : (ls : List Line) (l : Line) (bytes text : List ℕ) → size_in ls ≡ length bytes → l.size ≡ length text → texts_in (ls ++ l ∷ []) (bytes ++ text) ≡ texts_in ls bytes ++ text ∷ []
+texts_last [] l bytes text whole size =
+    let none : bytes ≡ [] = nil_from_length bytes (sym whole) in
+    ap (λ (b : List ℕ). take l.size (b ++ text) ∷ []) none ∙ ap (λ (t : List ℕ). t ∷ []) (take_all l.size text (omega (arith, size)))
+texts_last (k ∷ ls) l bytes text whole size =
+    let parts : k.size + size_in ls ≡ length bytes = sym (size_first k ls) ∙ whole in
+    ap₂ (λ (x : List ℕ) (xs : List (List ℕ)). x ∷ xs) (take-append-le k.size bytes text (omega (arith, parts)))
+    (ap (texts_in (ls ++ l ∷ [])) (drop-append-le k.size bytes text (omega (arith, parts))) ∙ texts_last ls l (drop k.size bytes) text (omega (arith, parts, length-drop k.size bytes)) size)
+
+-- a text behind the others is the text of an entry more
+pub writes_more : (ls : List Line) (bytes : List ℕ) (es : List Entry) (e : Entry) (l : Line) → size_in ls ≡ length bytes → l ≡ line_of e → offsets_in ls ≡ offsets_of es → texts_in ls bytes ≡ map entry_text es
+    → (offsets_in (ls ++ l ∷ []) ≡ offsets_of (es ++ e ∷ [])) × (texts_in (ls ++ l ∷ []) (bytes ++ entry_text e) ≡ map entry_text (es ++ e ∷ []))
+writes_more ls bytes es e l whole is offsets texts = (
+  map-append (λ (k : Line). k.offset) ls (l ∷ []) ∙ ap₂ (λ (os : List Offset) (o : Offset). os ++ o ∷ []) offsets (ap (λ (k : Line). k.offset) is) ∙ sym (map-append (λ (x : Entry). x.offset) es (e ∷ [])),
+  texts_last ls l bytes (entry_text e) whole (ap (λ (k : Line). k.size) is) ∙ ap (λ (ts : List (List ℕ)). ts ++ entry_text e ∷ []) texts ∙ sym (map-append entry_text es (e ∷ [])),
+)

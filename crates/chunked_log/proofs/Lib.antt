@@ -1,3 +1,4 @@
 mod Appending
 mod Paging
+mod Settling
 pub mod Lemmas

@@ -2,6 +2,7 @@
 use Rattle.std.specs.Prelude.{◌≡◌, length, map}
 use Rattle.chunk_cutter.specs.Cut.{HasCut}
 use Rattle.chunked_log.specs.Lines.{size_in}
+use Rattle.chunked_log.specs.Settled.{AreSettled}
 use Rattle.chunked_log.specs.declared.written.Written.TheInside as written
 use Rattle.chunked_log.specs.declared.log.ChunkedLog.TheInside as log
 
@@ -9,7 +10,8 @@ use Rattle.chunked_log.specs.declared.log.ChunkedLog.TheInside as log
 abbrev pub IsWritten : written.Inside → Type 0
 IsWritten w = size_in w.lines.items ≡ length w.buffer.items
 
--- the cutter has cut the sizes of the texts
+-- the cutter has cut the sizes of the texts, and each page that is kept is one for good
 pub record IsChunked (l : log.Inside) : Type 0 where
   pub cut : HasCut l.cutter (map length l.log.texts)
   pub same : length l.log.offsets ≡ length l.log.texts
+  pub settled : AreSettled l.log.offsets l.log.texts l.cutter.least l.settled

@@ -5,6 +5,7 @@
 #![tactic(auto)]
 
 mod log;
+mod settled;
 mod written;
 
 pub use log::{ChunkedLog, PageError};

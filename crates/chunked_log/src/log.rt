@@ -14,6 +14,7 @@ ghost use Rattle.chunked_log.specs.Lines.{offsets_in, sizes_in, size_in, texts_i
 ghost use Rattle.chunked_log.specs.Chunked.{Writes, Holds, HasRoom, Carries};
 ghost use Rattle.chunked_log.specs.Paging.{IsNoPage, StopsAt};
 
+use crate::settled::SettledPages;
 use crate::written::{Line, Written};
 use chunk_cutter::Cutter;
 use shape_base::{Offset, OutOfMemory, Page};
@@ -45,6 +46,8 @@ impl From<OutOfMemory> for PageError {
 pub struct ChunkedLog {
     log: TextLog,
     cutter: Cutter,
+    /// The pages of the chunks that were closed when room was last made.
+    settled: SettledPages,
 }
 
 impl Model for ChunkedLog {
@@ -110,6 +113,18 @@ fn end_of_page(log: &TextLog, offset: Offset, from: u64, to: u64) -> Offset
     }
 }
 
+/// A copy of a page, which shares its texts.
+fn twin(page: &Page) -> Result<Page, OutOfMemory>
+    ensures { IfOk result (λ twin. twin ≡ page.now) }
+{
+    Ok(Page {
+        inner: page.inner.clone()?,
+        count: page.count,
+        end: page.end,
+        up_to_date: page.up_to_date,
+    })
+}
+
 impl ChunkedLog {
     /// A log with no entry. A chunk closes at the entry with which its texts come to at least so many bytes.
     pub fn new(alloc: Global, chunk: u64) -> ChunkedLog
@@ -120,7 +135,40 @@ impl ChunkedLog {
         ChunkedLog {
             log: TextLog::new(alloc),
             cutter: Cutter::new(alloc, chunk),
+            settled: SettledPages::new(alloc),
         }
+    }
+
+    /// Keeps the page of the first closed chunk of which none is kept. False where there is no such chunk.
+    fn settle_next(&mut self) -> Result<bool, OutOfMemory>
+        ensures same { self.new ≡ self.old }
+    {
+        if self.cutter.closed() <= self.settled.entries() {
+            return Ok(false);
+        }
+        let after = self.settled.end();
+        let page = match self.cut_page(after) {
+            Ok(page) => page,
+            Err(PageError::OffsetAhead { .. }) => return Ok(false),
+            Err(PageError::OutOfMemory) => return Err(OutOfMemory),
+        };
+        if page.up_to_date || page.count == 0 {
+            return Ok(false);
+        }
+        self.settled.push(after, page)?;
+        Ok(true)
+    }
+
+    /// Keeps the pages of the closed chunks.
+    fn settle(&mut self) -> Result<(), OutOfMemory>
+        ensures same { self.new ≡ self.old }
+    {
+        for _ in 0..u64::MAX {
+            if !self.settle_next()? {
+                break;
+            }
+        }
+        Ok(())
     }
 
     /// Makes room for written entries, and lets the pages of the chunks that are closed share their bytes from now on. The entries stay as they are.
@@ -136,6 +184,7 @@ impl ChunkedLog {
             return Err(OutOfMemory);
         };
         self.log.seal(self.cutter.closed())?;
+        self.settle()?;
         self.log.reserve(count, bytes)?;
         self.cutter.reserve(count)
     }
@@ -177,11 +226,8 @@ impl ChunkedLog {
         self.log.len()
     }
 
-    /// The page after an offset: the entries past it up to the end of the first one's chunk, where that chunk is closed, and else all of them. The texts of a closed
-    /// chunk are shared with the log once room was made after it closed, and others are copied.
-    ///
-    /// `OffsetAhead` exactly where the offset is after the end.
-    pub fn page(&self, offset: Offset) -> Result<Page, PageError>
+    /// The page after an offset, by a search in the log.
+    fn cut_page(&self, offset: Offset) -> Result<Page, PageError>
         ensures page { (entries : List Entry) → Holds self.now entries → IfOk result (λ page. Carries page (page_of self.now.least entries offset)) }
         ensures settles { (entries more : List Entry) → Holds self.now entries → IfOk result (λ page. page.up_to_date ≡ false → Carries page (page_of self.now.least (entries ++ more) offset)) }
         ensures filled { (entries : List Entry) → Holds self.now entries → IfOk result (λ page. page.count ≡ 0 → past offset entries ≡ []) }
@@ -202,5 +248,26 @@ impl ChunkedLog {
             end,
             up_to_date,
         })
+    }
+
+    /// The page after an offset: the entries past it up to the end of the first one's chunk, where that chunk is closed, and else all of them. The texts of a closed
+    /// chunk are shared with the log once room was made after it closed, and others are copied.
+    ///
+    /// `OffsetAhead` exactly where the offset is after the end.
+    pub fn page(&self, offset: Offset) -> Result<Page, PageError>
+        ensures page { (entries : List Entry) → Holds self.now entries → IfOk result (λ page. Carries page (page_of self.now.least entries offset)) }
+        ensures settles { (entries more : List Entry) → Holds self.now entries → IfOk result (λ page. page.up_to_date ≡ false → Carries page (page_of self.now.least (entries ++ more) offset)) }
+        ensures filled { (entries : List Entry) → Holds self.now entries → IfOk result (λ page. page.count ≡ 0 → past offset entries ≡ []) }
+        ensures within { OnOk result (is_before (end_of self.now.offsets) offset ≡ false) }
+        ensures refused { IfErr result (IsNoPage (end_of self.now.offsets) offset) }
+    {
+        let end = self.log.end();
+        if end.before(&offset) {
+            return Err(PageError::OffsetAhead { end });
+        }
+        match self.settled.find(offset) {
+            Some(page) => Ok(twin(page)?),
+            None => self.cut_page(offset),
+        }
     }
 }

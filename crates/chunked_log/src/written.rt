@@ -1,5 +1,5 @@
 //! Entries, written.
-ghost use Rattle.std.specs.Prelude.{◌≡◌, ℕ, ◌+◌, ◌<◌, ◌≤◌, ◌^◌, IfOk, List, length, map};
+ghost use Rattle.std.specs.Prelude.{◌≡◌, ℕ, ◌+◌, ◌<◌, ◌≤◌, ◌^◌, ◌∷◌, ◌++◌, [], IfOk, OnOk, OnErr, List, length, map};
 ghost use Rattle.std.specs.List.{sum};
 ghost use Rattle.shape_base.specs.declared.entry.Entry.{Entry};
 ghost use Rattle.shape_json.specs.ShapeHistory.{bytes_of};
@@ -39,25 +39,42 @@ impl Model for Written {
 }
 
 impl Written {
+    /// No text.
+    pub fn new(alloc: Global) -> Written
+        ensures { Writes result [] }
+    {
+        Written {
+            lines: Vec::new(alloc),
+            buffer: Vec::new(alloc),
+        }
+    }
+
+    /// Adds the text of an entry. After want of memory the texts are as they were.
+    pub fn push(&mut self, entry: &Entry) -> Result<(), OutOfMemory>
+        ensures ok { (entries : List Entry) → Writes self.old entries → OnOk result (Writes self.new (entries ++ entry.now ∷ [])) }
+        ensures err { OnErr result (self.new ≡ self.old) }
+    {
+        let size = entry_size(entry);
+        if size == u64::MAX {
+            return Err(OutOfMemory);
+        }
+        self.buffer.reserve(size as usize)?;
+        self.lines.reserve(1)?;
+        put_entry(&mut self.buffer, entry);
+        let offset = entry.offset;
+        self.lines.push(Line { offset, size }).unwrap();
+        Ok(())
+    }
+
     /// The texts of these entries. It takes all the memory that appending them would need beside the log's.
     pub fn of(alloc: Global, entries: &Entries) -> Result<Written, OutOfMemory>
         ensures { IfOk result (λ written. Writes written entries.now) }
     {
-        let mut lines = Vec::new(alloc);
-        let mut buffer = Vec::new(alloc);
+        let mut written = Written::new(alloc);
         for entry in entries.as_slice() {
-            let size = entry_size(entry);
-            if size == u64::MAX {
-                return Err(OutOfMemory);
-            }
-            buffer.reserve(size as usize)?;
-            put_entry(&mut buffer, entry);
-            lines.push(Line {
-                offset: entry.offset,
-                size,
-            })?;
+            written.push(entry)?;
         }
-        Ok(Written { lines, buffer })
+        Ok(written)
     }
 
     /// How many texts there are.

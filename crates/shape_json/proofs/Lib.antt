@@ -13,3 +13,4 @@ pub mod Reading
 pub mod Sizes
 pub mod Texts
 pub mod Writing
+mod Runs

@@ -6,18 +6,28 @@ ghost use Rattle.shape_base.specs.OffsetText.{offset_text};
 ghost use Rattle.shape_json.specs.Body.{value_text, cell_text, cells_text, entry_text, inner_text, size_of};
 ghost use Rattle.shape_json.specs.Body.{capped};
 
-use crate::writer::spelling;
+use crate::writer::{is_plain_byte, spelling};
 use shape_base::{Cell, Entry, Offset, Value};
 
 /// What an entry's text has beside its key, its offset and its cells; all operations have six letters.
 const FRAME: u64 = 60;
+
+/// How many bytes stand for a byte in a JSON string.
+fn spelled_size(byte: u8) -> u64
+    ensures { result ≡ length (escape_byte byte) }
+{
+    if is_plain_byte(byte) {
+        return 1;
+    }
+    spelling(byte).1 as u64
+}
 
 pub(crate) fn string_size(text: &[u8]) -> u64
     ensures { result ≡ capped (length (quoted text.now)) }
 {
     let mut size = 2u64;
     for byte in text {
-        size = size.saturating_add(spelling(*byte).1 as u64);
+        size = size.saturating_add(spelled_size(*byte));
     }
     size
 }

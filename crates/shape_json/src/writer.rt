@@ -1,5 +1,5 @@
 //! The writer: each call adds a text at the end of a buffer that has room for it, and takes no memory.
-ghost use Rattle.std.specs.Prelude.{◌≡◌, ◌+◌, ◌≤◌, ◌<◌, ◌∷◌, [], ◌++◌, length, take, map, vec_len, vec_capacity, codes, decimal};
+ghost use Rattle.std.specs.Prelude.{◌≡◌, true, ◌+◌, ◌≤◌, ◌<◌, ◌∷◌, [], ◌++◌, length, take, map, vec_len, vec_capacity, codes, decimal};
 ghost use Rattle.std.specs.List.{flat_map};
 ghost use Rattle.std.specs.Str.{IsUtf8};
 ghost use Rattle.std.specs.Char.{digit_char};
@@ -70,17 +70,56 @@ pub(crate) fn spelling(byte: u8) -> ([u8; 6], usize)
     ([byte, 0, 0, 0, 0, 0], 1)
 }
 
-/// Adds what stands for the bytes of a text in a JSON string.
+/// Whether a byte stands for itself in a JSON string.
+pub(crate) fn is_plain_byte(byte: u8) -> bool
+    ensures { result ≡ true → escape_byte byte ≡ byte ∷ [] }
+{
+    match byte {
+        b'"' => false,
+        b'\\' => false,
+        0..=31 => false,
+        _ => true,
+    }
+}
+
+/// Adds bytes as they are.
+fn put_plain(out: &mut Vec<u8>, run: &[u8])
+    requires { HasRoom out.old (length run.now) }
+    ensures text { out.new.items ≡ out.old.items ++ run.now }
+    ensures len { vec_len out.new ≡ vec_len out.old + length run.now }
+    ensures room { vec_capacity out.old ≤ vec_capacity out.new }
+{
+    out.extend_from_slice(run).unwrap();
+}
+
+/// Adds bytes as they are, and what stands for one behind them in a JSON string.
+fn put_run(out: &mut Vec<u8>, run: &[u8], byte: u8)
+    requires { HasRoom out.old (length (run.now ++ escape_byte byte)) }
+    ensures text { out.new.items ≡ out.old.items ++ (run.now ++ escape_byte byte) }
+    ensures len { vec_len out.new ≡ vec_len out.old + length (run.now ++ escape_byte byte) }
+    ensures room { vec_capacity out.old ≤ vec_capacity out.new }
+{
+    out.extend_from_slice(run).unwrap();
+    let (spelling, count) = spelling(byte);
+    out.extend_from_slice(&spelling[..count]).unwrap();
+}
+
+/// Adds what stands for the bytes of a text in a JSON string. Bytes that stand for themselves are added many at a time.
 fn put_escaped(out: &mut Vec<u8>, text: &[u8])
     requires { HasRoom out.old (length (escape text.now)) }
     ensures text { out.new.items ≡ out.old.items ++ escape text.now }
     ensures len { vec_len out.new ≡ vec_len out.old + length (escape text.now) }
     ensures room { vec_capacity out.old ≤ vec_capacity out.new }
 {
-    for byte in text {
-        let (spelling, count) = spelling(*byte);
-        out.extend_from_slice(&spelling[..count]).unwrap();
+    let mut from = 0;
+    for place in 0..text.len() {
+        let byte = text[place];
+        if !is_plain_byte(byte) {
+            put_run(out, &text[from..place], byte);
+            from = place + 1;
+        }
     }
+    put_plain(out, &text[from..]);
 }
 
 /// Adds a text as a JSON string.

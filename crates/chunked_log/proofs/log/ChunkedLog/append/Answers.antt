@@ -4,6 +4,9 @@ use Rattle.chunk_cutter.specs.Cut.{HasCut}
 use Rattle.chunked_log.specs.declared.written.Line.{Line}
 use Rattle.chunked_log.specs.Lines.{offsets_in, sizes_in, texts_in}
 use Rattle.std.specs.List.{sum}
+use Rattle.shape_base.specs.declared.offset.Offset.{Offset}
+use Rattle.chunked_log.specs.Settled.{AreSettled}
+use Rattle.chunked_log.proofs.Settling.{all_stay}
 use Rattle.chunked_log.specs.Chunked.{Chunked, Texts}
 use Rattle.chunked_log.proofs.Appending.{count_texts, sum_texts, sizes_texts}
 use Rattle.chunked_log.proofs.log.ChunkedLog.append.Goals as goal
@@ -47,4 +50,8 @@ invariant_of-self c =
         count_texts w.lines.items w.buffer.items,
         c.self.invariant.same,
       );
+      settled = subst (λ (os : List Offset). AreSettled os c.append_lines.new.log.texts c.append_lines.new.cutter.least c.self.inside.settled) (sym c.append_lines.ensures.offsets)
+          (subst (λ (ts : List (List ℕ)). AreSettled (c.self.inside.log.offsets ++ offsets_in c.deref.result.now) ts c.append_lines.new.cutter.least c.self.inside.settled) (sym c.append_lines.ensures.texts)
+          (subst (λ (n : ℕ). AreSettled (c.self.inside.log.offsets ++ offsets_in c.deref.result.now) (c.self.inside.log.texts ++ texts_in c.deref.result.now c.deref-2.result.now) n c.self.inside.settled) (sym c.append_lines.ensures.least)
+          (all_stay c.self.inside.log.offsets (offsets_in c.deref.result.now) c.self.inside.log.texts (texts_in c.deref.result.now c.deref-2.result.now) c.self.inside.cutter.least c.self.inside.settled c.self.invariant.same c.self.invariant.settled)));
     }

@@ -1,35 +1,24 @@
-use Rattle.std.proofs.Common.{◌-◌, refl, subst, arith}
-use Rattle.shape_base.specs.declared.page.Page.{Page}
-use Rattle.chunked_log.specs.Chunked.{Chunked}
-use Rattle.chunked_log.proofs.Paging.{IsMade, count_inside, carried, settled, filled}
+use Rattle.std.proofs.Common.{List, [], ap, subst, append-nil, arith}
+use Rattle.shape_base.specs.declared.entry.Entry.{Entry}
+use Rattle.shape_json.specs.Page.{page_of}
+use Rattle.chunked_log.specs.Chunked.{Chunked, Carries}
+use Rattle.chunked_log.proofs.Settling.{seen}
 use Rattle.chunked_log.proofs.log.ChunkedLog.page.Goals as goal
 
-pub stop-to-requires-clause-within : goal.stop-to-requires-clause-within
-stop-to-requires-clause-within c = omega (arith, (c.in-Ok.ensures).found, count_inside c.args.offset c.self.inside.log.offsets, c.self.invariant.same)
+pub returns-in_ok-twin-in-Some-clause-page : goal.returns-in_ok-twin-in-Some-clause-page
+returns-in_ok-twin-in-Some-clause-page c = λ entries held.
+    let log = c.self.inside.log in
+    let kept = seen log.offsets log.texts c.self.inside.cutter.least c.args.self.now c.args.offset c.in-Some.page.now c.in_ok-twin-in-Some.field-0 (ap (λ (l : Chunked). l.offsets) c.self.view_is) (ap (λ (l : Chunked). l.texts) c.self.view_is) (ap (λ (l : Chunked). l.least) c.self.view_is) c.in_ok-twin-in-Some.ensures (c.in-Some.ensures log.offsets log.texts c.self.inside.cutter.least c.self.invariant.settled) in
+    subst (λ (es : List Entry). Carries c.in_ok-twin-in-Some.field-0 (page_of c.args.self.now.least es c.args.offset)) (append-nil entries) (kept.stays entries [] held.offsets held.texts)
 
-unfoldable page : goal.After-end_of_page-end → Page
-page c = record { inner = c.in_ok-inner.inner; count = c.stop-to.result.0 - c.in-Ok.from; end = c.end_of_page-end.result; up_to_date = c.stop-to.result.1 }
+pub returns-in_ok-twin-in-Some-clause-settles : goal.returns-in_ok-twin-in-Some-clause-settles
+returns-in_ok-twin-in-Some-clause-settles c = λ entries more held closed.
+    let log = c.self.inside.log in
+    let kept = seen log.offsets log.texts c.self.inside.cutter.least c.args.self.now c.args.offset c.in-Some.page.now c.in_ok-twin-in-Some.field-0 (ap (λ (l : Chunked). l.offsets) c.self.view_is) (ap (λ (l : Chunked). l.texts) c.self.view_is) (ap (λ (l : Chunked). l.least) c.self.view_is) c.in_ok-twin-in-Some.ensures (c.in-Some.ensures log.offsets log.texts c.self.inside.cutter.least c.self.invariant.settled) in
+    kept.stays entries more held.offsets held.texts
 
-made : (c : goal.After-end_of_page-end) → IsMade c.args.self.now c.args.offset c.in-Ok.from c.stop-to.result (page c)
-unfolding page
-made c = subst (λ (l : Chunked). IsMade l c.args.offset c.in-Ok.from c.stop-to.result (page c)) c.self.view_is (record {
-  from_is = (c.in-Ok.ensures).found;
-  stops = c.stop-to.ensures.stops;
-  within = c.stop-to.ensures.inside;
-  inner = (c.in_ok-inner.ensures);
-  count = refl;
-  end = c.end_of_page-end.ensures;
-  up_to_date = refl;
-})
-
-pub returns-clause-page : goal.returns-clause-page
-unfolding page
-returns-clause-page c = λ entries held. carried c.args.self.now entries c.args.offset c.in-Ok.from c.stop-to.result (page c) held (made c)
-
-pub returns-clause-settles : goal.returns-clause-settles
-unfolding page
-returns-clause-settles c = λ entries more held closed. settled c.args.self.now entries more c.args.offset c.in-Ok.from c.stop-to.result (page c) held (made c) closed
-
-pub returns-clause-filled : goal.returns-clause-filled
-unfolding page
-returns-clause-filled c = λ entries held none. filled c.args.self.now entries c.args.offset c.in-Ok.from c.stop-to.result (page c) held (made c) none
+pub returns-in_ok-twin-in-Some-clause-filled : goal.returns-in_ok-twin-in-Some-clause-filled
+returns-in_ok-twin-in-Some-clause-filled c = λ entries held none.
+    let log = c.self.inside.log in
+    let kept = seen log.offsets log.texts c.self.inside.cutter.least c.args.self.now c.args.offset c.in-Some.page.now c.in_ok-twin-in-Some.field-0 (ap (λ (l : Chunked). l.offsets) c.self.view_is) (ap (λ (l : Chunked). l.texts) c.self.view_is) (ap (λ (l : Chunked). l.least) c.self.view_is) c.in_ok-twin-in-Some.ensures (c.in-Some.ensures log.offsets log.texts c.self.inside.cutter.least c.self.invariant.settled) in
+    absurd (omega (arith, kept.some, none))
