@@ -25,6 +25,7 @@ mod writing;
 
 pub use error_code::{Detail, ErrorCode};
 pub use head::read_request;
+pub use parameters::{decoded, has_bad_percent};
 pub use reading::read_reply;
 pub use refusal::Refusal;
 pub use refusing::refusal_reply;

@@ -68,8 +68,8 @@ fn is_escaped(text: &[u8]) -> bool
     }
 }
 
-/// Whether some percent sign has no two hexadecimal digits after it.
-fn has_bad_percent(query: &[u8]) -> bool
+/// Whether some percent sign of a web form has no two hexadecimal digits after it (URL Standard, section 1.3).
+pub fn has_bad_percent(query: &[u8]) -> bool
     ensures { result ≡ has_bad_percent query.now }
 {
     let mut rest = query;
@@ -104,8 +104,9 @@ fn with_spaces(alloc: Global, raw: &[u8]) -> Result<Vec<u8>, OutOfMemory>
     Ok(spaced.collect(alloc)?)
 }
 
-/// The bytes that a name or a value stands for.
-fn decoded(alloc: Global, raw: &[u8]) -> Result<Vec<u8>, OutOfMemory>
+/// The bytes that a name or a value of a web form stands for: each plus sign is a space, and each escape its byte (URL
+/// Standard, section 5.1).
+pub fn decoded(alloc: Global, raw: &[u8]) -> Result<Vec<u8>, OutOfMemory>
     ensures { IfOk result (λ out. out.items ≡ decode raw.now) }
 {
     let spaced = with_spaces(alloc, raw)?;

@@ -176,7 +176,8 @@ fn capacity_of(reply: &Reply) -> usize {
 }
 
 fn is_handle(handle: &Option<Handle>) -> bool
-    ensures { result ≡ true → IfSome handle.now IsHandle }
+    ensures yes { result ≡ true → IfSome handle.now IsHandle }
+    ensures only { IfSome handle.now IsHandle → result ≡ true }
 {
     if let Some(handle) = handle {
         return 1 <= handle.number && is_run(handle.run.as_bytes());
@@ -185,7 +186,8 @@ fn is_handle(handle: &Option<Handle>) -> bool
 }
 
 fn is_schema(schema: &Option<Text>) -> bool
-    ensures { result ≡ true → IfSome schema.now (λ schema. list_all is_visible schema ≡ true) }
+    ensures yes { result ≡ true → IfSome schema.now (λ schema. list_all is_visible schema ≡ true) }
+    ensures only { IfSome schema.now (λ schema. list_all is_visible schema ≡ true) → result ≡ true }
 {
     if let Some(schema) = schema {
         return are_visible(schema.as_bytes());
@@ -199,6 +201,7 @@ pub fn has_text(reply: &Reply) -> bool
     ensures status { result ≡ true → is_status reply.now.status ≡ true }
     ensures handle { result ≡ true → IfSome reply.now.handle IsHandle }
     ensures schema { result ≡ true → IfSome reply.now.schema (λ schema. list_all is_visible schema ≡ true) }
+    ensures all { is_status reply.now.status ≡ true → IfSome reply.now.handle IsHandle → IfSome reply.now.schema (λ schema. list_all is_visible schema ≡ true) → result ≡ true }
 {
     is_status(reply.status) && is_handle(&reply.handle) && is_schema(&reply.schema)
 }

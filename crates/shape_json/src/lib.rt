@@ -14,6 +14,6 @@ pub use body::{close_body, put_entries, write_entries};
 pub use control::Control;
 pub use plain::is_plain;
 pub use read::{BodyError, read_body};
-pub use row::push_row;
+pub use row::{push_keyed, push_row};
 pub use size::entry_size;
 pub use writer::{put_cells, put_entry, put_string};
