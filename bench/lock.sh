@@ -1,7 +1,7 @@
 #!/usr/bin/env bash
 # Times 4 threads that add 250,000 numbers each to one list, under a FrontLock, under std's Mutex in the same program,
-# and, where rustc is there, under the Mutex of Rust's std; and one thread that adds as many alone. Prints the least time
-# of five runs of each, and fails where the FrontLock takes more than 3 times as long as std's Mutex, or 2.5 times alone.
+# and, where rustc is there, under the Mutex of Rust's std. Prints the least time of five runs of each, and fails where
+# the FrontLock takes more than 3 times as long as std's Mutex.
 set -euo pipefail
 each=${1:-250000}
 top=$(cd "$(dirname "$0")/.." && pwd)
@@ -17,9 +17,6 @@ least() {
 }
 
 run() { echo "$1 $each" | "$program"; }
-
-# the same numbers by one thread
-alone() { echo "$1 $((4 * each))" | "$program"; }
 
 mutex=$(least run mutex)
 lock=$(least run lock)
@@ -50,8 +47,4 @@ END
 else
     echo "Rust's Mutex: skipped, no rustc"
 fi
-one_mutex=$(least alone mutex_alone)
-one_lock=$(least alone lock_alone)
-echo "one thread alone: std's Mutex $one_mutex ms, FrontLock $one_lock ms"
-[ $((2 * one_lock)) -le $((5 * (one_mutex + 1))) ] || { echo "one thread alone: slower than 2.5 times std's Mutex"; exit 1; }
 [ "$lock" -le $((3 * (mutex + 1))) ] || { echo "slower than 3 times std's Mutex"; exit 1; }

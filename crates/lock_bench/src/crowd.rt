@@ -157,16 +157,3 @@ fn list_of(lock: FrontLock<Numbers>, whole: Pass<Numbers>) -> Vec<u64>
         Err(_) => unreachable!(),
     }
 }
-
-/// The list after one thread alone has added so many numbers, for measuring.
-pub fn added_alone<R: Wait>(rt: &R, alloc: Global, many: u64) -> Result<Vec<u64>, AllocError>
-    requires { many < 2 ^ 32 }
-{
-    let items = Vec::new(alloc);
-    let (lock, pass) = FrontLock::new(alloc, Numbers { items })?;
-    let pass = add_all(rt, &lock, pass, 0, many)?;
-    match lock.close(pass) {
-        Ok(Numbers { items }) => Ok(items),
-        Err(_) => Ok(Vec::new(alloc)),
-    }
-}

@@ -4,7 +4,6 @@
 //! |---|---|
 //! | `lock 250000` | how long the list is after four threads have added so many numbers each |
 //! | `mutex 250000` | the same under std's `Mutex`, the yardstick of bench/lock.sh |
-//! | `lock_alone 1000000`, `mutex_alone 1000000` | the same of one thread alone |
 //! | `four 100`, `eight 250` | so many threads: the same, and whether each thread's numbers stand in the order in which it added them |
 //! | `race 500` | two threads add twice so many numbers each, and in the middle the first tells the other what it has seen: the same |
 //! | `taken 7` | a number is added and the state is taken and not given back: the ticket that another pass waits for, and the one that is served |
@@ -18,9 +17,9 @@ mod race;
 
 ghost use Rattle.std.specs.Prelude.{◌<◌, ◌^◌};
 
-use crowd::{added_alone, added_by_eight, added_by_four};
+use crowd::{added_by_eight, added_by_four};
 use front_lock::{FrontLock, Taken};
-use mutex::{added_under_mutex, added_under_mutex_alone};
+use mutex::added_under_mutex;
 use numbers::{Numbers, add};
 use order::is_in_order;
 use race::raced;
@@ -71,8 +70,6 @@ fn answer<R: Threads + Wait + Sync>(
     match word {
         "lock" => format!(in alloc; "{}", added_by_four(rt, alloc, number)?.len()),
         "mutex" => format!(in alloc; "{}", added_under_mutex(rt, alloc, number)?.len()),
-        "lock_alone" => format!(in alloc; "{}", added_alone(rt, alloc, number)?.len()),
-        "mutex_alone" => format!(in alloc; "{}", added_under_mutex_alone(rt, alloc, number)?.len()),
         "four" => order_line(
             alloc,
             added_by_four(rt, alloc, number)?.as_slice(),

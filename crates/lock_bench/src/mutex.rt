@@ -63,16 +63,3 @@ pub fn added_under_mutex<R: Threads + Wait + Sync>(
     two?;
     Ok(mutex.into_inner())
 }
-
-/// The list after one thread alone has added so many numbers.
-pub fn added_under_mutex_alone<R: Wait>(
-    rt: &R,
-    alloc: Global,
-    many: u64,
-) -> Result<Vec<u64>, AllocError>
-    requires { many < 2 ^ 32 }
-{
-    let mutex = Mutex::new(Vec::new(alloc));
-    add_all(rt, &mutex, 0, many)?;
-    Ok(mutex.into_inner())
-}
