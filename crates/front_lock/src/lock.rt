@@ -109,10 +109,11 @@ impl<S: Stands> FrontLock<S> {
         Pass { seat }
     }
 
-    /// A second pass, which has seen as much and has no events of its own. Each of the two has half the share. At
-    /// `AllocError` the pass is as it was.
+    /// A second pass, which has seen as much and has no events of its own. Each of the two has half the share. It
+    /// always answers Ok.
     pub fn split(&self, pass: &mut Pass<S>) -> Result<Pass<S>, AllocError>
         requires { pass.old.lock ≡ self.now }
+        ensures sure { IsOk result }
         ensures second { IfOk result (λ p. IsSameLock pass.old p × (p.seen ≡ pass.old.seen) × (p.own ≡ []) × IsHalfOf pass.old p) }
         ensures first { IfOk result (λ _. IsSameLock pass.old pass.new × (pass.new.seen ≡ pass.old.seen) × (pass.new.own ≡ pass.old.own) × IsHalfOf pass.old pass.new) }
         ensures refused { IfErr result (λ _. pass.new ≡ pass.old) }
@@ -142,9 +143,10 @@ impl<S: Stands> FrontLock<S> {
         Pass { seat }
     }
 
-    /// What the pass has seen, for the holder of another to learn. The pass stays as it is, at `AllocError` too.
+    /// What the pass has seen, for the holder of another to learn. The pass stays as it is. It always answers Ok.
     pub fn note(&self, pass: &mut Pass<S>) -> Result<Note<S>, AllocError>
         requires { pass.old.lock ≡ self.now }
+        ensures sure { IsOk result }
         ensures note { IfOk result (λ n. IsSameLock pass.old n × (n.seen ≡ pass.old.seen)) }
         ensures kept { pass.new ≡ pass.old }
     {
