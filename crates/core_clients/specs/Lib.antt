@@ -5,3 +5,4 @@ pub mod Outs
 pub mod Taking
 pub mod Following
 pub mod Laws
+pub mod Placing

@@ -7,12 +7,13 @@ ghost use Rattle.core_law.specs.Situation as law;
 ghost use Rattle.core_law.specs.Steps.{change_at};
 ghost use Rattle.core_law.specs.Clients as steps;
 ghost use Rattle.core_law.specs.Run as run;
+ghost use Rattle.core_clients.specs.Placing.{placed_ask};
 ghost use Rattle.core_clients.specs.Standing.{Stands};
 ghost use Rattle.core_clients.specs.Taking.{Takes, Loses};
 
 use super::follower::{Follower, Received};
 use fold_client::Query;
-use shape_base::{OutOfMemory, Reply, Text};
+use shape_base::{Ask, OutOfMemory, Reply, Text};
 use std::alloc::Global;
 
 /// How many bytes a target has at most in a head of 16,384 bytes: `GET ` and ` HTTP/1.1` with two line ends take 17.
@@ -66,6 +67,16 @@ impl Clients {
     {
         match self.followers.get(client as usize) {
             Some(follower) => Ok(Some(follower.client.next_target()?)),
+            None => Ok(None),
+        }
+    }
+
+    /// What a client's next target asks for, by what its first one did; none exactly where no client has this number.
+    pub fn placed(&self, client: u32, first: &Ask) -> Result<Option<Ask>, OutOfMemory>
+        ensures { IfOk result (λ ask. (customers : List Customer) → Stands self.now customers → ask ≡ option_map (λ (c : Customer). placed_ask (law.held_of c) first.now) (slice_get customers client)) }
+    {
+        match self.followers.get(client as usize) {
+            Some(follower) => Ok(Some(follower.placed(self.alloc, first)?)),
             None => Ok(None),
         }
     }

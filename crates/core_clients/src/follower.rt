@@ -2,12 +2,13 @@
 ghost use Rattle.std.specs.Prelude.{◌≡◌, ◌∷◌, [], None, true, is_some, IfOk, OnOk, OnErr};
 ghost use Rattle.fold_client.specs.Client.{nothing_held, UpToDate};
 ghost use Rattle.fold_client.specs.Taking.{held_by};
+ghost use Rattle.core_clients.specs.Placing.{placed_ask};
 ghost use Rattle.core_clients.specs.Taking.{IsReceived};
 ghost use Rattle.core_clients.specs.Following.{TookIt, LostIt};
 
 use core_events::{Out, Outs};
 use fold_client::{Client, Query, TakeError, Taken};
-use shape_base::{Duplicate, OutOfMemory, Reply};
+use shape_base::{Ask, Duplicate, Named, OutOfMemory, Reply};
 use std::alloc::Global;
 
 /// What comes of a reply that a client takes.
@@ -58,6 +59,21 @@ impl Follower {
             client: Client::new(alloc, query),
             waiting: None,
         }
+    }
+
+    /// What its next target asks for, by what its first one did.
+    pub fn placed(&self, alloc: Global, first: &Ask) -> Result<Ask, OutOfMemory>
+        ensures { IfOk result (λ ask. ask ≡ placed_ask (held_by self.now.client) first.now) }
+    {
+        let mut ask = first.copy(alloc)?;
+        ask.named = match self.client.handle() {
+            Some(handle) => Named::Known(handle.copy(alloc)?),
+            None => Named::Absent,
+        };
+        ask.offset = self.client.offset();
+        ask.live = self.client.cursor().is_some();
+        ask.cursor = self.client.cursor().unwrap_or(0);
+        Ok(ask)
     }
 
     /// What is put out where it is up to date: the block of its rows. A client that is up to date has a handle.

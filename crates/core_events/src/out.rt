@@ -1,5 +1,6 @@
 //! What is put out.
-use shape_base::{Handle, KeyedRows, Octets, Offset, Seq, Text};
+use bytes::Bytes;
+use shape_base::{Handle, KeyedRows, Offset, OutOfMemory, Seq, Text};
 
 /// One thing that an event leads to.
 #[derive(Drop)]
@@ -7,7 +8,7 @@ pub enum Out {
     /// An exchange that a request's head made was given its reply, these bytes.
     Given {
         exchange: u32,
-        bytes: Octets,
+        bytes: Bytes,
     },
     /// The exchange had no whole head, and more bytes could have completed it.
     Cut {
@@ -67,4 +68,15 @@ pub enum StepError {
     TooManyExchanges,
     /// An allocation failed.
     OutOfMemory,
+}
+
+impl From<OutOfMemory> for StepError {
+    ghost use Rattle.std.specs.Prelude.{◌≡◌};
+    ghost use Rattle.core_events.specs.declared.out.StepError.TheVariants as errors;
+
+    ghost from_gives = { λ _ e. e ≡ errors.OutOfMemory };
+
+    fn from(_error: OutOfMemory) -> StepError {
+        StepError::OutOfMemory
+    }
 }

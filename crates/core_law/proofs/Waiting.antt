@@ -23,7 +23,6 @@ use Rattle.fold_client.specs.Following.{Heard}
 use Rattle.http_edge.specs.Lawful.{Asked, Refuses, AsksFor}
 use Rattle.core_law.specs.Situation.{Options, Server, shape_at, log_of_shape, Role, Reads, Waits, Owns, HasNone, Exchange, Situation, at_start, answers_from}
 use Rattle.core_law.specs.Steps.{refused_with, written_as, written_to, reply_now, heard_at, settled_one, refused_at}
-use Rattle.core_law.specs.Run as run
 use Rattle.core_law.specs.Run.{turn_of, next_of, after}
 use Rattle.core_law.specs.Waiting.{number_named, number_asked, awaited, IsAsBefore, WaitsForOne}
 use Rattle.core_law.specs.Laws.{AreSettled}

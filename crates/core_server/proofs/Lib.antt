@@ -15,3 +15,4 @@ mod Passing
 mod Counting
 mod Effects
 mod Committing
+mod Liveness

@@ -4,6 +4,7 @@
 mod answering;
 mod commits;
 mod effect;
+mod numbers;
 mod registering;
 mod schema;
 mod server;

@@ -112,6 +112,13 @@ impl Client {
         self.handle.as_ref()
     }
 
+    /// The cursor of its last reply, where that one was up to date.
+    pub fn cursor(&self) -> Option<u64>
+        ensures { result ≡ (held_by self.now).cursor }
+    {
+        self.cursor
+    }
+
     /// The handle that was left, where there is no present one.
     fn left_alone(&self) -> Option<&Handle>
         ensures { option_copied result ≡ left_alone self.now.handle self.now.left }
