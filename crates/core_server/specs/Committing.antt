@@ -43,9 +43,10 @@ pub record IsNewTo (v : law.Server) (tx : Tx) (n : ℕ) : Type 0 where
   pub noted : tx.lsn ≤ last_lsn v.registry
   pub later : is_live v.registry n ≡ true → IfSome (shape_at v.shapes n) (λ x. shapes.last_lsn x.events < tx.lsn)
 
--- Nothing happened that an answer could tell to a number that is not among these.
-abbrev pub IsTold : law.Server → law.Server → List ℕ → Type 0
-IsTold v w told = (n : ℕ) → list_any (λ m. m == n) told ≡ false → IsAsBefore v w n
+-- These are the numbers to which something happened that an answer could tell.
+pub record IsTold (v w : law.Server) (told : List ℕ) : Type 0 where
+  pub quiet : (n : ℕ) → list_any (λ m. m == n) told ≡ false → IsAsBefore v w n
+  pub loud : (n : ℕ) → list_any (λ m. m == n) told ≡ true → IsAsBefore v w n → ⊥
 
 -- ---- one number
 
