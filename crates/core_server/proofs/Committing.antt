@@ -1,5 +1,5 @@
 -- What a server stands for while a commit reaches its numbers.
-use Rattle.std.proofs.Common.{◌≡◌, ℕ, suc, ◌+◌, ◌-◌, ◌≤◌, ◌<◌, Bool, true, false, not, ◌||◌, ◌&&◌, ◌==◌, List, [], ◌∷◌, ◌++◌, length, take, get_or, true≢false, refl, ap, ap₂, sym, ◌∙◌, subst, arith, Option, None, Some}
+use Rattle.std.proofs.Common.{◌≡◌, ℕ, ◌+◌, ◌-◌, ◌≤◌, ◌<◌, Bool, true, false, not, ◌||◌, ◌&&◌, ◌==◌, List, [], ◌∷◌, ◌++◌, length, take, get_or, true≢false, refl, ap, ap₂, sym, ◌∙◌, subst, arith, Option, None, Some}
 use Rattle.std.specs.Bool.{if◌then◌else◌}
 use Rattle.std.specs.Prelude.{map, filter, is_some, unwrap_or, IfSome, IsSomeAnd, Result, Ok, Err, IfOk, OnOk, OnErr}
 use Rattle.std.specs.List.{list_any, last_or, range_with_len, AllByRecursion}
@@ -22,7 +22,7 @@ use Rattle.shape_registry.proofs.Growing.{part_stays, part_grows, any_more}
 use Rattle.shape_registry.proofs.Legal.{removed_stays, ready_stays}
 use Rattle.core_law.specs.Situation.{Options, Shape, shape_at, registry_start, log_of_shape}
 use Rattle.core_law.specs.Situation as law
-use Rattle.core_law.specs.Steps.{with_event, with_shape_event, with_registry, change_shape, redefined, definition_by, removed_for, bytes_kept, all_bytes, after_commit}
+use Rattle.core_law.specs.Steps.{with_event, with_shape_event, with_registry, redefined, definition_by, removed_for, bytes_kept, all_bytes, after_commit}
 use Rattle.core_law.specs.Waiting.{IsAsBefore}
 use Rattle.core_server.specs.declared.server.Server.{Server}
 use Rattle.core_server.specs.declared.effect.Effect.{Effect}
@@ -34,7 +34,7 @@ use Rattle.core_server.specs.Committing.{noted, comes, reached_by, reached, reac
 use Rattle.core_server.proofs.Maps.{removed_apart, inserted_apart, inserted_here}
 use Rattle.core_server.proofs.Sums.{log_bytes_is, bytes_changed, bytes_among}
 use Rattle.core_server.proofs.Places.{shape_here, shape_apart, same_or_not}
-use Rattle.core_server.proofs.Changing.{Changes, stands_changed, stands_on}
+use Rattle.core_server.proofs.Changing.{stands_changed, stands_on}
 use Rattle.core_server.proofs.Dropping.{removed_here, removed_apart_from, same_last, here_removed, Live, live_shape}
 use Rattle.core_server.proofs.Passing.{passes, shapes_stay, registrations_stay, others_stay}
 use Rattle.core_server.proofs.Effects.{definition_all}

@@ -20,7 +20,6 @@ use Rattle.shape_base.specs.declared.limits.Limits.{Limits}
 use Rattle.shape_base.specs.Tables.{Values, Own, same_def, own_of, own_from, changes_of}
 use Rattle.shape_base.specs.Snapshot.{Snapshot}
 use Rattle.shape_base.specs.Shape.{Knows, is_truncate, is_bad, old_of, new_of, stops}
-use Rattle.chunked_log.specs.Chunked.{Writes}
 use Rattle.shape_json.specs.Body.{capped, entry_text}
 use Rattle.shape_json.specs.ShapeHistory.{Reader, ShapeEvent, Snapped, Took, Dropped, ShapeState, Starting, Ready, Gone, snapshot_in, taken, log_after, bytes_of, bad_row, or_else, stop_of, first_stop, log_full, all_full, pending_full, entries_in, bytes_with, last_lsn, drop_by, is_passed, drop_at_commit, drop_at, drop_of, state_by, state_after}
 use Rattle.shape_json.proofs.Histories.{drop_next, took_adds}

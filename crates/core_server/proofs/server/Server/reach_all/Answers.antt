@@ -1,5 +1,4 @@
-use Rattle.std.proofs.Common.{refl, arith}
-use Rattle.core_server.specs.Committing.{reached}
+use Rattle.std.proofs.Common.{refl}
 use Rattle.core_server.proofs.Committing.{due_next, still_situated, one_further}
 use Rattle.core_server.proofs.server.Server.reach_all.Goals as goal
 
