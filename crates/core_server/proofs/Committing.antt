@@ -1,5 +1,5 @@
 -- What a server stands for while a commit reaches its numbers.
-use Rattle.std.proofs.Common.{◌≡◌, ℕ, suc, ◌+◌, ◌-◌, ◌≤◌, ◌<◌, Bool, true, false, not, ◌||◌, ◌&&◌, ◌==◌, List, [], ◌∷◌, ◌++◌, length, take, get_or, refl, ap, ap₂, sym, ◌∙◌, subst, arith, Option, None, Some}
+use Rattle.std.proofs.Common.{◌≡◌, ℕ, ◌+◌, ◌-◌, ◌≤◌, ◌<◌, Bool, true, false, not, ◌||◌, ◌&&◌, ◌==◌, List, [], ◌∷◌, ◌++◌, length, take, get_or, true≢false, refl, ap, ap₂, sym, ◌∙◌, subst, arith, Option, None, Some}
 use Rattle.std.specs.Bool.{if◌then◌else◌}
 use Rattle.std.specs.Prelude.{map, filter, is_some, unwrap_or, IfSome, IsSomeAnd, Result, Ok, Err, IfOk, OnOk, OnErr}
 use Rattle.std.specs.List.{list_any, last_or, range_with_len, AllByRecursion}
@@ -22,7 +22,7 @@ use Rattle.shape_registry.proofs.Growing.{part_stays, part_grows, any_more}
 use Rattle.shape_registry.proofs.Legal.{removed_stays, ready_stays}
 use Rattle.core_law.specs.Situation.{Options, Shape, shape_at, registry_start, log_of_shape}
 use Rattle.core_law.specs.Situation as law
-use Rattle.core_law.specs.Steps.{with_event, with_shape_event, with_registry, change_shape, redefined, definition_by, removed_for, bytes_kept, all_bytes, after_commit}
+use Rattle.core_law.specs.Steps.{with_event, with_shape_event, with_registry, redefined, definition_by, removed_for, bytes_kept, all_bytes, after_commit}
 use Rattle.core_law.specs.Waiting.{IsAsBefore}
 use Rattle.core_server.specs.declared.server.Server.{Server}
 use Rattle.core_server.specs.declared.effect.Effect.{Effect}
@@ -34,7 +34,7 @@ use Rattle.core_server.specs.Committing.{noted, comes, reached_by, reached, reac
 use Rattle.core_server.proofs.Maps.{removed_apart, inserted_apart, inserted_here}
 use Rattle.core_server.proofs.Sums.{log_bytes_is, bytes_changed, bytes_among}
 use Rattle.core_server.proofs.Places.{shape_here, shape_apart, same_or_not}
-use Rattle.core_server.proofs.Changing.{Changes, stands_changed, stands_on}
+use Rattle.core_server.proofs.Changing.{stands_changed, stands_on}
 use Rattle.core_server.proofs.Dropping.{removed_here, removed_apart_from, same_last, here_removed, Live, live_shape}
 use Rattle.core_server.proofs.Passing.{passes, shapes_stay, registrations_stay, others_stay}
 use Rattle.core_server.proofs.Effects.{definition_all}
@@ -203,13 +203,34 @@ reached_more o tx (k ∷ ns) v n = reached_more o tx ns (reached o tx v k) n
 any_last : (ns : List ℕ) (n m : ℕ) → list_any (λ k. k == m) (ns ++ n ∷ []) ≡ (list_any (λ k. k == m) ns || (n == m))
 any_last ns n m = any_more (λ k. k == m) ns n
 
-pub told_with : (o : Options) (tx : Tx) (v w : law.Server) (told : List ℕ) (n : ℕ) → IsTold v w told → IsTold v (reached o tx w n) (told ++ n ∷ [])
-told_with o tx v w told n h m none = let b = either_false (list_any (λ k. k == m) told) (n == m) (sym (any_last told n m) ∙ none) in
-    before_trans v w (reached o tx w n) m (h m b.0) (as_before w (reached o tx w n) m (still_apart o tx w n m (unequal n m b.1)))
+-- what is as before since then is as before since later
+as_after : (v w u : law.Server) (m : ℕ) → IsAsBefore v w m → IsAsBefore v u m → IsAsBefore w u m
+as_after v w u m still h = record { removed = h.removed ∙ sym still.removed; ready = h.ready ∙ sym still.ready; log = h.log ∙ sym still.log }
 
-pub told_without : (o : Options) (tx : Tx) (v w : law.Server) (told : List ℕ) (n : ℕ) → IsAsBefore w (reached o tx w n) n → IsTold v w told → IsTold v (reached o tx w n) told
-told_without o tx v w told n quiet h m none = before_trans v w (reached o tx w n) m (h m none)
-    (same_or_not n m (λ e. subst (λ k. IsAsBefore w (reached o tx w n) k) e quiet) (λ other. as_before w (reached o tx w n) m (still_apart o tx w n m other)))
+still_back : (w u v : law.Server) (m : ℕ) → IsStill w u m → IsAsBefore v u m → IsAsBefore v w m
+still_back w u v m still h = record { removed = sym still.removed ∙ h.removed; ready = sym still.ready ∙ h.ready; log = sym (ap log_of_shape still.shape) ∙ h.log }
+
+other_than : (told : List ℕ) (n m : ℕ) → list_any (λ k. k == n) told ≡ false → list_any (λ k. k == m) told ≡ true → n ≡ m → ⊥
+other_than told n m fresh there same = true≢false (sym (subst (λ k. list_any (λ j. j == k) told ≡ true) (sym same) there) ∙ fresh)
+
+told_with : (o : Options) (tx : Tx) (v w : law.Server) (told : List ℕ) (n : ℕ) → list_any (λ k. k == n) told ≡ false → (IsAsBefore v (reached o tx w n) n → ⊥) → IsTold v w told → IsTold v (reached o tx w n) (told ++ n ∷ [])
+told_with o tx v w told n fresh here h = record {
+  quiet = λ m none. let b = either_false (list_any (λ k. k == m) told) (n == m) (sym (any_last told n m) ∙ none) in
+      before_trans v w (reached o tx w n) m (h.quiet m b.0) (as_before w (reached o tx w n) m (still_apart o tx w n m (unequal n m b.1)));
+  loud = λ m some. one_of (list_any (λ k. k == m) told) refl (n == m) refl m (sym (any_last told n m) ∙ some);
+}
+  where
+    one_of : {m : ℕ} (a : Bool) → list_any (λ k. k == m) told ≡ a → (b : Bool) → (n == m) ≡ b → (k : ℕ) → (a || b) ≡ true → IsAsBefore v (reached o tx w n) m → ⊥
+    one_of {m} true e b f k h2 same = h.loud m e (still_back w (reached o tx w n) v m (still_apart o tx w n m (other_than told n m fresh e)) same)
+    one_of {m} false e true f k h2 same = here (subst (λ j. IsAsBefore v (reached o tx w n) j) (sym ((Decides-eqb n m).0 f)) same)
+    one_of {m} false e false f k h2 same = cc
+
+told_without : (o : Options) (tx : Tx) (v w : law.Server) (told : List ℕ) (n : ℕ) → list_any (λ k. k == n) told ≡ false → IsAsBefore w (reached o tx w n) n → IsTold v w told → IsTold v (reached o tx w n) told
+told_without o tx v w told n fresh quiet h = record {
+  quiet = λ m none. before_trans v w (reached o tx w n) m (h.quiet m none)
+      (same_or_not n m (λ e. subst (λ k. IsAsBefore w (reached o tx w n) k) e quiet) (λ other. as_before w (reached o tx w n) m (still_apart o tx w n m other)));
+  loud = λ m some same. h.loud m some (still_back w (reached o tx w n) v m (still_apart o tx w n m (other_than told n m fresh some)) same);
+}
 
 -- ---- one number
 
@@ -328,6 +349,21 @@ module _ (o : Options) (v : law.Server) (tx : Tx) (n : ℕ) (s t : Server) (e : 
     log = ap log_of_shape (shape_here (with_event event) v.shapes n ∙ ap (option_map (with_event event)) u.at) ∙ u.effect.quiet quiet ∙ ap log_of_shape (sym u.at);
   })
 
+  -- where something is told, an answer can tell
+  pub loud_is : e.tells ≡ true → IsAsBefore v (reached o tx v n) n → ⊥
+  loud_is loud same = pick e.cause refl
+    where
+      log_now : log_of_shape (shape_at taken_up.shapes n) ≡ log_of_shape (Some with_it)
+      log_now = ap log_of_shape (shape_here (with_event event) v.shapes n ∙ ap (option_map (with_event event)) u.at)
+
+      removed_then : (cause : Cause) (d : Option TableDef) → was_removed (redefined (with_registry taken_up (Removed n cause)) d).registry n ≡ true
+      removed_then cause None = removed_here v.registry n cause
+      removed_then cause (Some d) = removed_stays (v.registry ++ Removed n cause ∷ []) (Redefined d) n refl ∙ removed_here v.registry n cause
+
+      pick : (c : Option Cause) → e.cause ≡ c → ⊥
+      pick None is = u.effect.loud loud (sym u.effect.cause ∙ is) (sym log_now ∙ sym (ap (λ (w : law.Server). log_of_shape (shape_at w.shapes n)) (reached_is None is)) ∙ same.log ∙ ap log_of_shape u.at)
+      pick (Some cause) is = true≢false (sym (removed_then cause e.definition) ∙ ap (λ (w : law.Server). was_removed w.registry n) (sym (removed_is cause is)) ∙ same.removed ∙ not_removed)
+
 -- a number that is not live is not reached
 pub not_reached : (o : Options) (tx : Tx) (v : law.Server) (n : ℕ) → is_live v.registry n ≡ false → reached o tx v n ≡ v
 not_reached o tx v n dead = ap (λ (b : Bool). if b then reached_by o tx v n (shape_at v.shapes n) else v) dead
@@ -437,31 +473,73 @@ catalog_back (Some k) old new n cause h g same = ap (λ (st : RegistryState). st
 -- how far the commit has come
 pub record HasCome (s : Server) (tx : Tx) (ns : List ℕ) (i : ℕ) (t : Server) (told : List ℕ) : Type 0 where
   pub come : (o : Options) (v : law.Server) → Stands o v s → ((n : ℕ) → IsNewTo v tx n) → HasReached o v tx (take i ns) t told
+  pub among : (m : ℕ) → list_any (λ k. k == m) told ≡ true → list_any (λ k. k == m) (take i ns) ≡ true
   pub tables : t.tables ≡ s.tables
 
 pub nothing_yet : (s : Server) (tx : Tx) (ns : List ℕ) → HasCome s tx ns 0 s []
 nothing_yet s tx ns = record {
-  come = λ o v h new. record { stands = h; told = λ m none. record { removed = refl; ready = refl; log = refl } };
+  come = λ o v h new. record { stands = h; told = record { quiet = λ m none. record { removed = refl; ready = refl; log = refl }; loud = λ m some. cc } };
+  among = λ m some. cc;
   tables = refl;
 }
 
--- the commit is new to the next number
+-- the next number is none of those so far
+still_next : (o : Options) (v : law.Server) (tx : Tx) (ns : List ℕ) (i n : ℕ) → AreApart ns → i < length ns → n ≡ get_or ns i 0 → IsStill v (reached_all o tx v (take i ns)) n
+still_next o v tx ns i n apart lt is = still_all o tx (take i ns) v n (ap (λ k. list_any (λ m. m == k) (take i ns)) is ∙ apart i lt)
+
+-- the commit is new to it
 pub next_new : (o : Options) (v : law.Server) (tx : Tx) (ns : List ℕ) (i n : ℕ) → AreApart ns → i < length ns → n ≡ get_or ns i 0 → ((n : ℕ) → IsNewTo v tx n) → IsNewTo (reached_all o tx v (take i ns)) tx n
-next_new o v tx ns i n apart lt is new = new_still v (reached_all o tx v (take i ns)) tx n (still_all o tx (take i ns) v n (ap (λ k. list_any (λ m. m == k) (take i ns)) is ∙ apart i lt)) (new n)
+next_new o v tx ns i n apart lt is new = new_still v (reached_all o tx v (take i ns)) tx n (still_next o v tx ns i n apart lt is) (new n)
+
+-- and was not told
+fresh_next : (told ns : List ℕ) (i n : ℕ) → AreApart ns → i < length ns → n ≡ get_or ns i 0 → ((m : ℕ) → list_any (λ k. k == m) told ≡ true → list_any (λ k. k == m) (take i ns) ≡ true) → list_any (λ k. k == n) told ≡ false
+fresh_next told ns i n apart lt is among = pick (list_any (λ k. k == n) told) refl
+  where
+    pick : (b : Bool) → list_any (λ k. k == n) told ≡ b → b ≡ false
+    pick true e = sym (among n e) ∙ ap (λ k. list_any (λ m. m == k) (take i ns)) is ∙ apart i lt
+    pick false e = refl
+
+either_true : (a b c d : Bool) → (a ≡ true → c ≡ true) → (b ≡ true → d ≡ true) → (a || b) ≡ true → (c || d) ≡ true
+either_true true b c d f g h = ap (λ x. x || d) (f refl)
+either_true false true c d f g h = ap (λ x. c || x) (g refl) ∙ or_right c
+  where
+    or_right : (c : Bool) → (c || true) ≡ true
+    or_right true = refl
+    or_right false = refl
+either_true false false c d f g h = cc
+
+first_true : (a b : Bool) → a ≡ true → (a || b) ≡ true
+first_true a b e = ap (λ x. x || b) e
+
+among_more : (told ns : List ℕ) (n : ℕ) (b : Bool) (m : ℕ) → (list_any (λ k. k == m) told ≡ true → list_any (λ k. k == m) ns ≡ true) → list_any (λ k. k == m) (if b then told ++ n ∷ [] else told) ≡ true → list_any (λ k. k == m) (ns ++ n ∷ []) ≡ true
+among_more told ns n true m among some = any_last ns n m ∙ either_true (list_any (λ k. k == m) told) (n == m) (list_any (λ k. k == m) ns) (n == m) among (λ e. e) (sym (any_last told n m) ∙ some)
+among_more told ns n false m among some = any_last ns n m ∙ first_true (list_any (λ k. k == m) ns) (n == m) (among some)
+
+told_if : (o : Options) (tx : Tx) (v w : law.Server) (told : List ℕ) (n : ℕ) (b : Bool) → IsStill v w n → list_any (λ k. k == n) told ≡ false → (b ≡ false → IsAsBefore w (reached o tx w n) n) → (b ≡ true → IsAsBefore w (reached o tx w n) n → ⊥) → IsTold v w told
+    → IsTold v (reached o tx w n) (if b then told ++ n ∷ [] else told)
+told_if o tx v w told n true still fresh quiet loud h = told_with o tx v w told n fresh (λ same. loud refl (as_after v w (reached o tx w n) n (as_before v w n still) same)) h
+told_if o tx v w told n false still fresh quiet loud h = told_without o tx v w told n fresh (quiet refl) h
 
 -- one number more
-pub one_further : (s : Server) (tx : Tx) (ns : List ℕ) (i n : ℕ) (t t2 : Server) (told more : List ℕ) → AreApart ns → i < length ns → n ≡ get_or ns i 0 → HasCome s tx ns i t told
-    → ((o : Options) (v : law.Server) → Stands o v t → IsNewTo v tx n → Stands o (reached o tx v n) t2) → t2.tables ≡ t.tables
-    → ((o : Options) (v w : law.Server) → Stands o w t → IsNewTo w tx n → IsTold v w told → IsTold v (reached o tx w n) more) → HasCome s tx ns (i + 1) t2 more
-one_further s tx ns i n t t2 told more apart lt is h reaches tables tells = record {
+pub one_further : (s : Server) (tx : Tx) (ns : List ℕ) (i n : ℕ) (t t2 : Server) (told : List ℕ) (b : Bool) (more : List ℕ) → AreApart ns → i < length ns → n ≡ get_or ns i 0 → HasCome s tx ns i t told
+    → more ≡ (if b then told ++ n ∷ [] else told) → t2.tables ≡ t.tables
+    → ((o : Options) (v : law.Server) → Stands o v t → IsNewTo v tx n → Stands o (reached o tx v n) t2)
+    → ((o : Options) (w : law.Server) → Stands o w t → IsNewTo w tx n → b ≡ false → IsAsBefore w (reached o tx w n) n)
+    → ((o : Options) (w : law.Server) → Stands o w t → IsNewTo w tx n → b ≡ true → IsAsBefore w (reached o tx w n) n → ⊥) → HasCome s tx ns (i + 1) t2 more
+one_further s tx ns i n t t2 told b more apart lt is h adds tables reaches quiet loud = record {
   come = λ o v st new. let w = reached_all o tx v (take i ns) in let c = h.come o v st new in let due = next_new o v tx ns i n apart lt is new in
-      let same : reached_all o tx v (take (i + 1) ns) ≡ reached o tx w n = ap (reached_all o tx v) (take_more ns i 0 lt ∙ ap (λ k. take i ns ++ k ∷ []) (sym is)) ∙ reached_more o tx (take i ns) v n in
+      let same : reached_all o tx v (take (i + 1) ns) ≡ reached o tx w n = ap (reached_all o tx v) taken ∙ reached_more o tx (take i ns) v n in
       record {
         stands = subst (λ z. Stands o z t2) (sym same) (reaches o w c.stands due);
-        told = subst (λ z. IsTold v z more) (sym same) (tells o v w c.stands due c.told);
+        told = subst (λ z. IsTold v z more) (sym same) (subst (IsTold v (reached o tx w n)) (sym adds)
+            (told_if o tx v w told n b (still_next o v tx ns i n apart lt is) (fresh_next told ns i n apart lt is h.among) (quiet o w c.stands due) (loud o w c.stands due) c.told));
       };
+  among = λ m some. ap (list_any (λ k. k == m)) taken ∙ among_more told (take i ns) n b m (h.among m) (ap (list_any (λ k. k == m)) (sym adds) ∙ some);
   tables = tables ∙ h.tables;
 }
+  where
+    taken : take (i + 1) ns ≡ take i ns ++ n ∷ []
+    taken = take_more ns i 0 lt ∙ ap (λ k. take i ns ++ k ∷ []) (sym is)
 
 -- the commit is due at the next number
 pub due_next : (s : Server) (tx : Tx) (ns : List ℕ) (i n : ℕ) (t : Server) (told : List ℕ) → AreApart ns → i < length ns → n ≡ get_or ns i 0 → HasCome s tx ns i t told → IsNoted s tx → IsDue t tx n
@@ -491,7 +569,10 @@ after_stands o v s t tx ns answer h is r = subst (λ w. Stands o w t) (ap (reach
 
 pub after_told : (o : Options) (v : law.Server) (s t : Server) (tx : Tx) (ns answer : List ℕ) → Stands o v s → ns ≡ live_numbers v.registry → HasReached o (noted v tx) tx ns t answer → IsTold v (after_commit o v tx) answer
 after_told o v s t tx ns answer h is r = subst (λ w. IsTold v w answer) (ap (reached_all o tx (noted v tx)) is ∙ after_is o v s tx h)
-    (λ n none. before_trans v (noted v tx) (reached_all o tx (noted v tx) ns) n (noted_before v tx n) (r.told n none))
+    (record {
+      quiet = λ n none. before_trans v (noted v tx) (reached_all o tx (noted v tx) ns) n (noted_before v tx n) (r.told.quiet n none);
+      loud = λ n some same. r.told.loud n some (as_after v (noted v tx) (reached_all o tx (noted v tx) ns) n (noted_before v tx n) same);
+    })
 
 pub both_ok : {T E : Type 0} (r : Result T E) {P : T → Type 0} {Q R : Type 0} → IfOk r P → OnOk r Q → ((x : T) → P x → Q → R) → OnOk r R
 both_ok (Ok x) p q go = go x p q
@@ -516,7 +597,3 @@ on_some_is r x {P} is h = subst (λ r. OnSome r P) is h
 pub on_any_err : {T E : Type 0} (r : Result T E) {P : Type 0} → P → OnErr r P
 on_any_err (Ok x) p = tt
 on_any_err (Err e) p = p
-
-pub told_if : (o : Options) (tx : Tx) (v w : law.Server) (told : List ℕ) (n : ℕ) (b : Bool) (more : List ℕ) → more ≡ (if b then told ++ n ∷ [] else told) → (b ≡ false → IsAsBefore w (reached o tx w n) n) → IsTold v w told → IsTold v (reached o tx w n) more
-told_if o tx v w told n true more is quiet h = subst (IsTold v (reached o tx w n)) (sym is) (told_with o tx v w told n h)
-told_if o tx v w told n false more is quiet h = subst (IsTold v (reached o tx w n)) (sym is) (told_without o tx v w told n (quiet refl) h)

@@ -1,5 +1,5 @@
 -- What was prepared for a commit tells what the commit does to the shape.
-use Rattle.std.proofs.Common.{◌≡◌, ℕ, zero, suc, ◌+◌, ◌-◌, ◌<◌, ◌≤◌, ◌^◌, Bool, true, false, not, ◌||◌, ◌==◌, ◌&&◌, List, [], ◌∷◌, ◌++◌, length, drop, get_or, refl, ap, ap₂, sym, ◌∙◌, subst, arith, append-nil, Option, None, Some}
+use Rattle.std.proofs.Common.{◌≡◌, ℕ, zero, suc, ◌+◌, ◌-◌, ◌<◌, ◌≤◌, ◌^◌, Bool, true, false, not, ◌||◌, ◌==◌, ◌&&◌, List, [], ◌∷◌, ◌++◌, length, drop, get_or, refl, ap, ap₂, sym, ◌∙◌, subst, arith, append-nil, length-append, true≢false, Option, None, Some}
 use Rattle.std.specs.Bool.{if◌then◌else◌}
 use Rattle.std.specs.Borrow.{Bor}
 use Rattle.std.specs.Prelude.{min, map, nat_lt, is_some, IfSome, slice_get}
@@ -20,7 +20,6 @@ use Rattle.shape_base.specs.declared.limits.Limits.{Limits}
 use Rattle.shape_base.specs.Tables.{Values, Own, same_def, own_of, own_from, changes_of}
 use Rattle.shape_base.specs.Snapshot.{Snapshot}
 use Rattle.shape_base.specs.Shape.{Knows, is_truncate, is_bad, old_of, new_of, stops}
-use Rattle.chunked_log.specs.Chunked.{Writes}
 use Rattle.shape_json.specs.Body.{capped, entry_text}
 use Rattle.shape_json.specs.ShapeHistory.{Reader, ShapeEvent, Snapped, Took, Dropped, ShapeState, Starting, Ready, Gone, snapshot_in, taken, log_after, bytes_of, bad_row, or_else, stop_of, first_stop, log_full, all_full, pending_full, entries_in, bytes_with, last_lsn, drop_by, is_passed, drop_at_commit, drop_at, drop_of, state_by, state_after}
 use Rattle.shape_json.proofs.Histories.{drop_next, took_adds}
@@ -190,6 +189,22 @@ module _ (r : Reader) (l : Limits) (events : List ShapeEvent) (tx : Tx) (others 
       ∙ ap (λ (es : List Entry). log_after r.knows x events ++ es) (empty_by (entries_in r.knows tx) written.texts h.1.texts quiet) ∙ append-nil (log_after r.knows x events) ∙ sym (in_log (Some x) events h.0.came)
   log_stays (prepared.Drop cause) h quiet = cc
 
+  -- where something is told of a shape that is not dropped, its log has grown
+  log_grows : (p : Prepared) → IsPreparedBy r l events tx others p → tells_in p ≡ true → drop_at r l events (Took tx others) ≡ None → log_in r later ≡ log_in r events → ⊥
+  log_grows prepared.Skip h loud stays same = cc
+  log_grows (prepared.Buffer copy) h loud stays same = cc
+  log_grows (prepared.Append written) h loud stays same = let x = h.0.snapshot in
+      let a : log_in r later ≡ log_after r.knows x events ++ entries_in r.knows tx = in_log (Some x) later (snapshot_later events ∙ h.0.came) ∙ log_later x false h.0.came h.0.not_passed h.0.none in
+      let b : log_in r events ≡ log_after r.knows x events = in_log (Some x) events h.0.came in
+      let n : length (log_after r.knows x events) + length (entries_in r.knows tx) ≡ length (log_after r.knows x events) = sym (length-append (log_after r.knows x events) (entries_in r.knows tx)) ∙ ap length (sym a ∙ same ∙ b) in
+      let t : length written.texts ≡ length (entries_in r.knows tx) = ap length h.1.texts ∙ length-map (entries_in r.knows tx) entry_text in
+      let z : length written.texts ≡ 0 = omega (arith, n, t) in
+      true≢false (sym loud ∙ ap not ((Decides-eqb (length written.texts) 0).1 z))
+  log_grows (prepared.Drop cause) h loud stays same = never (sym stays ∙ h)
+    where
+      never : ◌≡◌ {A = Option Cause} None (Some cause) → ⊥
+      never e = cc
+
   -- and the shape is not dropped
   stays_quiet : (p : Prepared) → tells_in p ≡ false → cause_of p ≡ None
   stays_quiet prepared.Skip quiet = refl
@@ -241,6 +256,7 @@ module _ (r : Reader) (l : Limits) (events : List ShapeEvent) (tx : Tx) (others 
     definition = definition ∙ definition_is r l events tx others (cause_of p) at ∙ ap (option_and_then (definition_by r.knows tx)) (sym (drop_later ∙ at));
     total = let f = fits p by small in omega (arith, total, f);
     quiet = λ q. log_stays p by (sym tells ∙ q);
+    loud = λ q stays same. log_grows p by (sym tells ∙ q) (sym drop_later ∙ stays) same;
     lives = λ q. drop_later ∙ at ∙ stays_quiet p (sym tells ∙ q);
   }
 

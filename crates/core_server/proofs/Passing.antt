@@ -1,23 +1,21 @@
 -- A commit that reaches the live numbers one after the other, where each that it drops is removed at once, does what the definition says: it reaches all, and then those that it drops are removed.
 use Rattle.std.proofs.Common.{◌≡◌, ℕ, zero, suc, ◌+◌, ◌-◌, ◌≤◌, ◌<◌, Bool, true, false, not, cond, ◌||◌, ◌&&◌, ◌==◌, List, [], ◌∷◌, ◌++◌, length, refl, ap, sym, ◌∙◌, subst, arith, append_assoc, Option, None, Some}
 use Rattle.std.specs.Bool.{if◌then◌else◌}
-use Rattle.std.specs.Prelude.{map, filter, fold}
+use Rattle.std.specs.Prelude.{filter}
 use Rattle.std.specs.List.{slice_get, range_with_len, list_any}
-use Rattle.std.proofs.lemmas.List.{append-nil}
 use Rattle.shape_base.specs.declared.cause.Cause.{Cause}
 use Rattle.shape_base.specs.declared.change.Tx.{Tx}
 use Rattle.shape_base.specs.declared.definition.TableDef.{TableDef}
 use Rattle.shape_base.specs.declared.registry_event.RegistryEvent.{RegistryEvent}
 use Rattle.shape_base.specs.declared.registry_event.RegistryEvent.TheVariants.{Removed, Redefined}
-use Rattle.shape_base.specs.declared.registry_event.RegistryEvent.TheVariants as events
 use Rattle.shape_base.specs.RegistryHistory.{Registration, registrations, registration_in, was_registered, was_removed, is_live}
 use Rattle.shape_json.specs.ShapeHistory.{drop_of, Took}
 use Rattle.shape_registry.proofs.Growing.{part_stays}
 use Rattle.shape_registry.proofs.Legal.{removed_stays}
 use Rattle.core_law.specs.Situation.{Options, Shape, shape_at}
 use Rattle.core_law.specs.Situation as law
-use Rattle.core_law.specs.Steps.{with_event, change_at, change_shape, with_registry, redefined, took_one, took_from, definition_by, removed_for, swept_from, bytes_kept, all_bytes}
-use Rattle.core_server.specs.Committing.{comes, reached_by, reached, reached_all}
+use Rattle.core_law.specs.Steps.{with_event, change_at, change_shape, with_registry, redefined, took_from, definition_by, removed_for, swept_from, bytes_kept, all_bytes}
+use Rattle.core_server.specs.Committing.{reached_by, reached, reached_all}
 use Rattle.core_server.proofs.Dropping.{removed_apart_from}
 use Rattle.core_server.proofs.Sums.{all_with}
 

@@ -1,5 +1,5 @@
 -- A commit as a server takes it: the live numbers have it one after the other, and each that it drops is removed at once.
-use Rattle.std.specs.Prelude.{◌≡◌, ℕ, ◌-◌, ◌≤◌, ◌<◌, Bool, true, false, ◌==◌, if◌then◌else◌, List, [], ◌∷◌, ◌++◌, length, take, get_or, fold, Option, None, Some, IfSome}
+use Rattle.std.specs.Prelude.{◌≡◌, ℕ, ◌-◌, ◌≤◌, ◌<◌, true, false, ◌==◌, if◌then◌else◌, List, [], ◌∷◌, ◌++◌, length, take, get_or, fold, Option, None, Some, IfSome}
 use Rattle.std.specs.List.{list_any}
 use Rattle.std.specs.FinMap as fin
 use Rattle.shape_base.specs.declared.change.Tx.{Tx}
@@ -43,9 +43,10 @@ pub record IsNewTo (v : law.Server) (tx : Tx) (n : ℕ) : Type 0 where
   pub noted : tx.lsn ≤ last_lsn v.registry
   pub later : is_live v.registry n ≡ true → IfSome (shape_at v.shapes n) (λ x. shapes.last_lsn x.events < tx.lsn)
 
--- Nothing happened that an answer could tell to a number that is not among these.
-abbrev pub IsTold : law.Server → law.Server → List ℕ → Type 0
-IsTold v w told = (n : ℕ) → list_any (λ m. m == n) told ≡ false → IsAsBefore v w n
+-- These are the numbers to which something happened that an answer could tell.
+pub record IsTold (v w : law.Server) (told : List ℕ) : Type 0 where
+  pub quiet : (n : ℕ) → list_any (λ m. m == n) told ≡ false → IsAsBefore v w n
+  pub loud : (n : ℕ) → list_any (λ m. m == n) told ≡ true → IsAsBefore v w n → ⊥
 
 -- ---- one number
 

@@ -64,6 +64,7 @@ pub record IsEffect (r : Reader) (l : Limits) (events : List ShapeEvent) (tx : T
   pub definition : e.definition ≡ option_and_then (definition_by r.knows tx) (drop_of r l (events ++ Took tx others ∷ []))
   pub total : e.total ≡ others + log_bytes (state_after r l (events ++ Took tx others ∷ []))
   pub quiet : e.tells ≡ false → log_in r (events ++ Took tx others ∷ []) ≡ log_in r events
+  pub loud : e.tells ≡ true → drop_of r l (events ++ Took tx others ∷ []) ≡ None → log_in r (events ++ Took tx others ∷ []) ≡ log_in r events → ⊥
   pub lives : e.tells ≡ false → drop_of r l (events ++ Took tx others ∷ []) ≡ None
 
 -- the events are those of a shape that is not dropped, the commit is after them, and its log is among all

@@ -91,6 +91,7 @@ impl Server {
         requires due { IsDue self.old tx.now number }
         ensures reached { (o : Options) (v : law.Server) → Stands o v self.old → IsNewTo v tx.now number → OnOk result (Stands o (reached o tx.now v number) self.new) }
         ensures told { (o : Options) (v : law.Server) → Stands o v self.old → IsNewTo v tx.now number → IfOk result (λ told. told ≡ false → IsAsBefore v (reached o tx.now v number) number) }
+        ensures only { (o : Options) (v : law.Server) → Stands o v self.old → IsNewTo v tx.now number → IfOk result (λ told. told ≡ true → IsAsBefore v (reached o tx.now v number) number → ⊥) }
         ensures still { (o : Options) (v : law.Server) → Stands o v self.old → OnErr result (Stands o v self.new) }
         ensures tables { self.new.tables ≡ self.old.tables }
     {
@@ -143,7 +144,7 @@ impl Server {
     }
 
     /// Takes a commit: the shape of each live number has it, one after the other in rising order. Each that it drops is removed, and where it came under another definition, that is its table's
-    /// from now on. The numbers of which an answer can tell, in rising order: those that were removed, and those whose log has grown.
+    /// from now on. The numbers of which an answer can tell: those that were removed, and those whose log has grown.
     ///
     /// The commit is whole, its LSN is above `last_lsn`, and each of its definitions is of a served table. After want of memory some numbers may have the commit and others not.
     pub fn commit(&mut self, alloc: Global, tx: &Tx) -> Result<Numbers, OutOfMemory>

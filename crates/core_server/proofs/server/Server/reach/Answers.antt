@@ -2,7 +2,7 @@ use Rattle.std.proofs.Common.{refl, sym, subst}
 use Rattle.std.specs.List.{AllByRecursion}
 use Rattle.core_server.specs.Standing.{Stands, IsNew}
 use Rattle.core_server.specs.Committing.{IsTakenUp}
-use Rattle.core_server.proofs.Committing.{goes_on, away, removed_is, quiet_is, definition_new}
+use Rattle.core_server.proofs.Committing.{goes_on, away, removed_is, quiet_is, loud_is, definition_new}
 use Rattle.core_server.proofs.server.Server.reach.Goals as goal
 
 pub redefine_by-requires-clause-situated : goal.redefine_by-requires-clause-situated
@@ -28,6 +28,16 @@ pub returns-in-None-clause-told : goal.returns-in-None-clause-told
 returns-in-None-clause-told c = λ o v h new quiet. let s = c.args.self.now in let t = c.take_up.new.self in
     let u = subst (λ a. IsTakenUp o v c.args.tx.now c.args.number s t a) c.in-Some.is ((c.in_ok-effect.ensures).taken o v h new) in
     quiet_is o v c.args.tx.now c.args.number s t c.in-Some.effect h u quiet
+
+pub returns-in-None-clause-only : goal.returns-in-None-clause-only
+returns-in-None-clause-only c = λ o v h new loud same. let s = c.args.self.now in let t = c.take_up.new.self in
+    let u = subst (λ a. IsTakenUp o v c.args.tx.now c.args.number s t a) c.in-Some.is ((c.in_ok-effect.ensures).taken o v h new) in
+    loud_is o v c.args.tx.now c.args.number s t c.in-Some.effect h u loud same
+
+pub returns-in-Some-cause-clause-only : goal.returns-in-Some-cause-clause-only
+returns-in-Some-cause-clause-only c = λ o v h new loud same. let s = c.args.self.now in let t = c.take_up.new.self in
+    let u = subst (λ a. IsTakenUp o v c.args.tx.now c.args.number s t a) c.in-Some.is ((c.in_ok-effect.ensures).taken o v h new) in
+    loud_is o v c.args.tx.now c.args.number s t c.in-Some.effect h u loud same
 
 pub returns-in-Some-cause-clause-reached : goal.returns-in-Some-cause-clause-reached
 returns-in-Some-cause-clause-reached c = λ o v h new. let s = c.args.self.now in let t = c.take_up.new.self in
