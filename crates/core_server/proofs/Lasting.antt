@@ -1,5 +1,5 @@
 -- The last commit and the last transaction taken, and what a snapshot under way keeps.
-use Rattle.std.proofs.Common.{◌≡◌, ℕ, suc, ◌+◌, ◌≤◌, Bool, true, false, List, [], ◌∷◌, ◌++◌, length, refl, ap, sym, ◌∙◌, subst, arith, length-append, Option, None, Some}
+use Rattle.std.proofs.Common.{◌≡◌, ℕ, suc, ◌+◌, Bool, true, false, List, [], ◌∷◌, ◌++◌, length, refl, ap, sym, ◌∙◌, subst, arith, length-append, Option, None, Some}
 use Rattle.std.specs.Bool.{if◌then◌else◌}
 use Rattle.std.specs.Option.{option_map}
 use Rattle.std.specs.List.{last_or}
@@ -9,16 +9,14 @@ use Rattle.shape_base.specs.declared.definition.TableDef.{TableDef}
 use Rattle.shape_base.specs.declared.registry_event.RegistryEvent.{RegistryEvent}
 use Rattle.shape_base.specs.declared.registry_event.RegistryEvent.TheVariants.{Registered, Ready, Removed, Took, Redefined}
 use Rattle.shape_base.specs.Tables.{Table}
-use Rattle.shape_base.specs.Snapshot.{Snapshot}
 use Rattle.shape_base.specs.RegistryHistory.{Taken, transaction_in, transactions, is_live, last_id}
 use Rattle.shape_json.specs.ShapeHistory.{Reader, Snapped, Dropped, drop_of}
 use Rattle.shape_registry.proofs.Growing.{part_stays, part_grows}
 use Rattle.pg_dialogue.specs.declared.login.SnapHead.{SnapHead}
-use Rattle.core_law.specs.Situation.{Options, Shape, Server, Situation, shape_at, at_start}
-use Rattle.core_law.specs.Steps.{with_registry, with_shape_event, redefined, dropped, with_commit, definition_by, removed_for, swept_from, id_before, started_by, started}
+use Rattle.core_law.specs.Situation.{Options, Shape, Server, Situation, at_start}
+use Rattle.core_law.specs.Steps.{with_registry, with_shape_event, redefined, with_commit, definition_by, removed_for, swept_from, id_before, started_by}
 use Rattle.core_law.specs.Run as run
 use Rattle.core_law.specs.Run.{next_of, turn_of, after}
-use Rattle.core_law.specs.Laws.{IsStart}
 use Rattle.core_law.proofs.Lists.{last_place, some_same}
 use Rattle.core_law.proofs.Server.{Extends}
 use Rattle.core_law.proofs.ServerSteps.{id_stays}

@@ -1,7 +1,7 @@
 -- How a dialogue's course is an event of the core.
 use Rattle.std.proofs.Common.{◌≡◌, ℕ, ◌-◌, Bool, true, false, ◌&&◌, ◌==◌, not, List, [], ◌∷◌, ◌++◌, length, refl, ap, sym, ◌∙◌, subst, Option, None, Some}
 use Rattle.std.specs.Bool.{if◌then◌else◌}
-use Rattle.std.specs.Prelude.{IsSomeAnd, nat_lt, is_none, Result, Ok, Err, slice_get}
+use Rattle.std.specs.Prelude.{IsSomeAnd, nat_lt, is_none, Result, Ok, Err}
 use Rattle.std.specs.Option.{option_map}
 use Rattle.std.proofs.lemmas.Bool.Decides.{Decides-eqb}
 use Rattle.shape_base.specs.declared.change.Tx.{Tx}
@@ -9,27 +9,26 @@ use Rattle.shape_base.specs.declared.definition.TableDef.{TableDef}
 use Rattle.shape_base.specs.declared.limits.Limits.{Limits}
 use Rattle.shape_base.specs.Tables.{Values, Table, same_def, lacks_key}
 use Rattle.shape_base.specs.Visibility.{Visibility, is_visible}
-use Rattle.shape_base.specs.Snapshot.{Snapshot, definition_in}
-use Rattle.shape_base.specs.Shape.{Knows, have_truths, picks, key_text}
+use Rattle.shape_base.specs.Snapshot.{Snapshot}
+use Rattle.shape_base.specs.Shape.{have_truths, picks, key_text}
 use Rattle.shape_base.proofs.Tests.{Decides-same_def}
-use Rattle.shape_base.specs.RegistryHistory.{is_starting}
 use Rattle.shape_json.specs.Body.{capped}
 use Rattle.shape_json.specs.ShapeHistory.{Reader, snapshot_in, bytes_of, bad_column}
 use Rattle.pg_dialogue.specs.declared.login.SnapHead.{SnapHead}
 use Rattle.snapshot_merge.specs.VisText.{visibility_of}
 use Rattle.shape_snapshot.specs.declared.faults.SnapError.{SnapError}
 use Rattle.shape_snapshot.specs.declared.faults.SnapError.TheVariants.{BadSnapshot, DefinitionChanged, Stale, WrongWidth, BadValue, NullKey, DuplicateKey, LogFull, OutOfMemory}
-use Rattle.shape_snapshot.specs.Refusals.{placed, seen_of, definition_got, is_defined_so, fresh_of, started_over, start_of, fault_of, log_of, is_taken_key, full_of, refusal_by, refusal_behind, refusal_of}
+use Rattle.shape_snapshot.specs.Refusals.{placed, seen_of, definition_got, is_defined_so, fresh_of, started_over, start_of, fault_of, log_of, is_taken_key, full_of, refusal_behind, refusal_of}
 use Rattle.shape_snapshot.specs.Refusals as snap
 use Rattle.http_edge.specs.declared.error_code.ErrorCode.{ErrorCode}
 use Rattle.http_edge.specs.declared.error_code.ErrorCode.TheVariants as codes
 use Rattle.http_edge.specs.declared.error_code.Detail.TheVariants as details
 use Rattle.core_events.specs.declared.out.Unfit.TheVariants as unfit
-use Rattle.core_law.specs.Situation.{Options, Shape, Situation, shape_at}
-use Rattle.core_law.specs.Steps.{Fault, IsBad, TooLarge, code_of, owned_by, id_before, stale_by, untrue_by, or_else, refusal_of_snapshot, changed_in, snapshot_ends, snapped}
-use Rattle.core_law.specs.Clients.{Turn, is_unfit, finished, never}
+use Rattle.core_law.specs.Situation.{Options, Shape, Situation}
+use Rattle.core_law.specs.Steps.{Fault, IsBad, TooLarge, code_of, id_before, stale_by, untrue_by, or_else, refusal_of_snapshot, changed_in, snapshot_ends, snapped}
+use Rattle.core_law.specs.Clients.{is_unfit, finished, never}
 use Rattle.core_law.specs.Run as run
-use Rattle.core_law.specs.Run.{Event, SnapshotCame, SnapshotEnded, turn_of}
+use Rattle.core_law.specs.Run.{SnapshotCame, SnapshotEnded, turn_of}
 use Rattle.core_server.specs.Snapshots.{snapshot_of, error_in, first_refused, refusal_in, code_for, definition_for, came_by, event_for}
 use Rattle.core_server.specs.SnapshotLaws.{IsOwner, HeadsAreRefused, SnapshotsCome, SnapshotsEnd}
 

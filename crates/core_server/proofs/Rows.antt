@@ -1,5 +1,5 @@
 -- A snapshot that begins, and takes its rows.
-use Rattle.std.proofs.Common.{◌≡◌, ℕ, Bool, true, false, not, List, [], ◌∷◌, ◌++◌, refl, ap, sym, ◌∙◌, subst, append_assoc, Option, None, Some, ◌⊎◌, inl, inr}
+use Rattle.std.proofs.Common.{◌≡◌, ℕ, Bool, true, false, List, [], ◌∷◌, ◌++◌, refl, ap, sym, ◌∙◌, subst, append_assoc, Option, None, Some, inl, inr}
 use Rattle.std.specs.Bool.{if◌then◌else◌}
 use Rattle.std.specs.Prelude.{Result, Ok, Err}
 use Rattle.std.specs.FinMap as fin
@@ -22,7 +22,7 @@ use Rattle.core_law.specs.Situation as law
 use Rattle.core_law.specs.Steps.{id_before}
 use Rattle.core_law.proofs.Lists.{some_same}
 use Rattle.core_server.specs.declared.server.Server.{Server}
-use Rattle.core_server.specs.Standing.{Kept, knows_in, reader_of, reader_in, IsKept, Stands}
+use Rattle.core_server.specs.Standing.{Kept, knows_in, reader_of, reader_in, Stands}
 use Rattle.core_server.specs.Snapshots.{Snap, error_in, first_refused, refusal_in, IsUnderWay}
 use Rattle.core_server.proofs.Dropping.{live_shape}
 

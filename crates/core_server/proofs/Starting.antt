@@ -1,5 +1,5 @@
 -- A starting number whose snapshot came.
-use Rattle.std.proofs.Common.{◌≡◌, ℕ, ◌+◌, ◌≤◌, Bool, true, false, not, ◌||◌, ◌==◌, List, [], ◌∷◌, ◌++◌, refl, ap, sym, ◌∙◌, subst, arith, Option, None, Some}
+use Rattle.std.proofs.Common.{◌≡◌, ℕ, ◌+◌, Bool, true, false, not, ◌||◌, ◌==◌, List, [], ◌∷◌, ◌++◌, refl, ap, sym, ◌∙◌, subst, arith, Option, None, Some}
 use Rattle.std.specs.Bool.{if◌then◌else◌}
 use Rattle.std.specs.Prelude.{map, unwrap_or, is_some, is_none, IsSomeAnd, Result, Ok, Err, OnSome, OnOk, OnErr}
 use Rattle.std.specs.List.{last_or}
@@ -25,7 +25,6 @@ use Rattle.shape_registry.proofs.Growing.{part_stays}
 use Rattle.shape_registry.proofs.Legal.{removed_stays, ready_stays}
 use Rattle.shape_registry.proofs.Meanings.{may_start}
 use Rattle.shape_registry.specs.declared.standing.Standing.TheVariants as standings
-use Rattle.shape_registry.specs.declared.standing.Standing.{Standing}
 use Rattle.shape_registry.specs.State.{live_at, standing_of, standing_in}
 use Rattle.shape_snapshot.specs.Taken.{HasTaken}
 use Rattle.shape_state.specs.declared.state.Kept as states
@@ -48,7 +47,7 @@ use Rattle.core_server.specs.Readied.{MayReady, IsReadied, event_of, kept_by, Is
 use Rattle.core_server.proofs.Maps.{removed_apart}
 use Rattle.core_server.proofs.Sums.{log_bytes_is, no_bytes, bytes_changed}
 use Rattle.core_server.proofs.Changing.{Changes, stands_changed}
-use Rattle.core_server.proofs.Dropping.{some_or_none, or_false, removed_here, removed_apart_from, same_last, is_dropped, live_shape, here_removed}
+use Rattle.core_server.proofs.Dropping.{or_false, removed_here, removed_apart_from, same_last, is_dropped, live_shape, here_removed}
 use Rattle.core_server.proofs.Refusing.{not_refused}
 
 -- ---- small facts

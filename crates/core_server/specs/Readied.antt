@@ -1,12 +1,12 @@
 -- What a snapshot leaves of a shape and of its server.
-use Rattle.std.specs.Prelude.{◌≡◌, ℕ, ◌+◌, List, None}
+use Rattle.std.specs.Prelude.{◌≡◌, ℕ, List}
 use Rattle.std.specs.Ordering.{nat_cmp}
 use Rattle.std.specs.FinMap as fin
 use Rattle.std.specs.FinMap.{FinMap}
 use Rattle.shape_base.specs.Snapshot.{Snapshot}
 use Rattle.shape_base.specs.declared.registry_event.RegistryEvent.{RegistryEvent}
 use Rattle.shape_base.specs.declared.registry_event.RegistryEvent.TheVariants as events
-use Rattle.shape_json.specs.ShapeHistory.{ShapeEvent, Snapped, drop_of, state_after}
+use Rattle.shape_json.specs.ShapeHistory.{ShapeEvent, Snapped, state_after}
 use Rattle.shape_registry.specs.Registry.{Adds}
 use Rattle.shape_snapshot.specs.Taken.{HasTaken}
 use Rattle.shape_state.specs.declared.paged.Stage.{Stage}

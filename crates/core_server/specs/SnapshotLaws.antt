@@ -1,5 +1,5 @@
 -- How a dialogue's course is an event of the core.
-use Rattle.std.specs.Prelude.{◌≡◌, ℕ, true, List, [], ◌++◌, length, Option, None, Some, Ok, IsSomeAnd, slice_get}
+use Rattle.std.specs.Prelude.{◌≡◌, ℕ, true, List, [], ◌++◌, length, None, Some, Ok, IsSomeAnd, slice_get}
 use Rattle.std.specs.Option.{option_map}
 use Rattle.shape_base.specs.declared.change.Tx.{Tx}
 use Rattle.shape_base.specs.Tables.{Table}

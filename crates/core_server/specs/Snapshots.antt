@@ -1,6 +1,5 @@
 -- The snapshot of a starting number, as its dialogue gives it: why it is refused, and what the core's event is.
-use Rattle.std.specs.Prelude.{◌≡◌, ℕ, true, List, [], ◌∷◌, ◌++◌, Option, None, Some, Result, Ok, Err, slice_get}
-use Rattle.shape_base.specs.declared.cause.Cause.TheVariants as causes
+use Rattle.std.specs.Prelude.{◌≡◌, ℕ, List, [], ◌∷◌, ◌++◌, Option, None, Some, Result, Ok, Err}
 use Rattle.shape_base.specs.declared.change.Tx.{Tx}
 use Rattle.shape_base.specs.declared.definition.TableDef.{TableDef}
 use Rattle.shape_base.specs.declared.limits.Limits.{Limits}
