@@ -364,10 +364,6 @@ module _ (o : Options) (v : law.Server) (tx : Tx) (n : ℕ) (s t : Server) (e : 
       pick None is = u.effect.loud loud (sym u.effect.cause ∙ is) (sym log_now ∙ sym (ap (λ (w : law.Server). log_of_shape (shape_at w.shapes n)) (reached_is None is)) ∙ same.log ∙ ap log_of_shape u.at)
       pick (Some cause) is = true≢false (sym (removed_then cause e.definition) ∙ ap (λ (w : law.Server). was_removed w.registry n) (sym (removed_is cause is)) ∙ same.removed ∙ not_removed)
 
--- a number that is not live is not reached
-pub not_reached : (o : Options) (tx : Tx) (v : law.Server) (n : ℕ) → is_live v.registry n ≡ false → reached o tx v n ≡ v
-not_reached o tx v n dead = ap (λ (b : Bool). if b then reached_by o tx v n (shape_at v.shapes n) else v) dead
-
 -- ---- a shape that is kept
 
 module _ (o : Options) (v : law.Server) (s : Server) (n : ℕ) (k : Kept) (h : Stands o v s) (live : is_live v.registry n ≡ true) (there : fin.get s.registry.kept n ≡ Some k) where

@@ -5,6 +5,7 @@ use Rattle.shape_base.specs.declared.cause.Cause.{Cause}
 use Rattle.shape_base.specs.declared.cause.Cause.TheVariants as causes
 use Rattle.shape_base.specs.declared.change.Tx.{Tx}
 use Rattle.shape_base.specs.declared.definition.TableDef.{TableDef}
+use Rattle.shape_base.specs.declared.entry.Entry.{Entry}
 use Rattle.shape_base.specs.declared.limits.Limits.{Limits}
 use Rattle.shape_base.specs.Tables.{Own, same_def, changes_of}
 use Rattle.shape_json.specs.ShapeHistory.{Reader, ShapeEvent, Took, snapshot_in, last_lsn, drop_of, state_after}
@@ -54,7 +55,7 @@ new_definition d tx None = None
 new_definition d tx (Some cause) = if is_changed cause then other_definition d (changes_of d.table tx) else None
 
 -- the log of a shape with these events
-abbrev pub log_in : Reader → List ShapeEvent → List Rattle.shape_base.specs.declared.entry.Entry.Entry
+abbrev pub log_in : Reader → List ShapeEvent → List Entry
 log_in r events = log_by r (snapshot_in events) events
 
 -- The effect of a commit that came to a shape with these events while the other logs had so many bytes: why it drops the shape; the new definition of its table; the bytes of all logs; and whether
