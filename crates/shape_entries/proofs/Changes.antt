@@ -21,6 +21,7 @@ use Rattle.shape_base.specs.Tables.{Values, Own, own_of, own_from, changes_of, i
 use Rattle.shape_base.specs.Shape.{Knows, IsLeast, emit, stops, is_bad, is_truncate, old_of, new_of}
 use Rattle.shape_base.proofs.Lemmas.{Decides-same_def}
 use Rattle.shape_base.specs.Transactions.{IsAsWide, IsUnder}
+use Rattle.chunked_log.specs.Chunked.{Texts, Writes}
 use Rattle.change_map.specs.Keys.{is_null_key}
 use Rattle.change_map.specs.Emitting.{IsWhole, IsThereAndBadAt, IsChangeBadAt}
 use Rattle.shape_entries.specs.Commit.{own_at}
@@ -108,11 +109,14 @@ pub own_none : (t j : ℕ) (kind : ChangeKind) (o : Option TableDef) → o ≡ N
 own_none t j kind o is = ap (λ (x : Option TableDef). own_of t j kind x []) is
 
 -- what one change adds, and whether it stops
-pub adds_none : (s : Knows) (lsn : ℕ) (own : List Own) (made : List Entry) → own ≡ [] → (made ≡ made ++ flat_map (emit s lsn) own) × (false ≡ list_any (stops s) own)
-adds_none s lsn own made is = (sym (ap (λ (os : List Own). made ++ flat_map (emit s lsn) os) is ∙ append-nil made), sym (ap (list_any (stops s)) is))
+pub adds_none : (s : Knows) (lsn : ℕ) (own : List Own) (made : List Entry) → own ≡ [] → made ++ flat_map (emit s lsn) own ≡ made
+adds_none s lsn own made is = ap (λ (os : List Own). made ++ flat_map (emit s lsn) os) is ∙ append-nil made
 
-pub adds_one : (s : Knows) (lsn : ℕ) (own : List Own) (x : Own) (made new : List Entry) → own ≡ x ∷ [] → new ≡ made ++ emit s lsn x → new ≡ made ++ flat_map (emit s lsn) own
-adds_one s lsn own x made new is h = h ∙ ap (λ (es : List Entry). made ++ es) (sym (append-nil (emit s lsn x))) ∙ ap (λ (os : List Own). made ++ flat_map (emit s lsn) os) (sym is)
+pub stops_none : (s : Knows) (own : List Own) → own ≡ [] → false ≡ list_any (stops s) own
+stops_none s own is = sym (ap (list_any (stops s)) is)
+
+pub adds_one : (s : Knows) (lsn : ℕ) (own : List Own) (x : Own) (made : List Entry) → own ≡ x ∷ [] → made ++ emit s lsn x ≡ made ++ flat_map (emit s lsn) own
+adds_one s lsn own x made is = ap (λ (es : List Entry). made ++ es) (sym (append-nil (emit s lsn x))) ∙ ap (λ (os : List Own). made ++ flat_map (emit s lsn) os) (sym is)
 
 or_none : (b : Bool) → b ≡ (b || false)
 or_none true = refl
@@ -122,12 +126,14 @@ pub stops_one : (s : Knows) (own : List Own) (x : Own) (b : Bool) → own ≡ x 
 stops_one s own x b is h = h ∙ or_none (stops s x) ∙ ap (list_any (stops s)) (sym is)
 
 -- the entries of what is left, and whether it stops the shape
-pub record Left (s : Knows) (tx : Tx) (j : ℕ) (made : List Entry) : Type 0 where
+pub record Left (s : Knows) (tx : Tx) (j : ℕ) (written : Texts) : Type 0 where
+  pub made : List Entry
+  pub writes : Writes written made
   pub entries : made ++ flat_map (emit s tx.lsn) (own_from s.definition.table tx.defs j (drop j tx.changes)) ≡ flat_map (emit s tx.lsn) (changes_of s.definition.table tx)
   pub stop : list_any (stops s) (own_from s.definition.table tx.defs j (drop j tx.changes)) ≡ list_any (stops s) (changes_of s.definition.table tx)
 
-pub left_start : (s : Knows) (tx : Tx) → Left s tx 0 []
-left_start s tx = record { entries = refl; stop = refl }
+pub left_start : (s : Knows) (tx : Tx) (written : Texts) → Writes written [] → Left s tx 0 written
+left_start s tx written writes = record { made = []; writes = writes; entries = refl; stop = refl }
 
 cut : (tx : Tx) (t j : ℕ) (c : Change) → j < length tx.changes → get_or tx.changes j c ≡ c
     → own_from t tx.defs j (drop j tx.changes) ≡ own_of t j c.kind (slice_get tx.defs c.def) [] ++ own_from t tx.defs (j + 1) (drop (j + 1) tx.changes)
@@ -135,22 +141,25 @@ cut tx t j c lt is =
     ap (own_from t tx.defs j) (drop_more tx.changes j c lt ∙ ap (λ (x : Change). x ∷ drop (j + 1) tx.changes) is)
     ∙ own_split t j c.kind (slice_get tx.defs c.def) (own_from t tx.defs (j + 1) (drop (j + 1) tx.changes))
 
-pub left_more : (s : Knows) (tx : Tx) (j : ℕ) (made new : List Entry) (c : Change) → j < length tx.changes → c ≡ get_or tx.changes j c → Left s tx j made
-    → new ≡ made ++ flat_map (emit s tx.lsn) (own_of s.definition.table j c.kind (slice_get tx.defs c.def) []) → false ≡ list_any (stops s) (own_of s.definition.table j c.kind (slice_get tx.defs c.def) [])
+pub left_more : (s : Knows) (tx : Tx) (j : ℕ) (written new : Texts) (c : Change) → j < length tx.changes → c ≡ get_or tx.changes j c → Left s tx j written
+    → ((made : List Entry) → Writes written made → Writes new (made ++ flat_map (emit s tx.lsn) (own_of s.definition.table j c.kind (slice_get tx.defs c.def) [])))
+    → false ≡ list_any (stops s) (own_of s.definition.table j c.kind (slice_get tx.defs c.def) [])
     → Left s tx (j + 1) new
-left_more s tx j made new c lt is l e keeps =
+left_more s tx j written new c lt is l adds keeps =
     let own = own_of s.definition.table j c.kind (slice_get tx.defs c.def) [] in
     let rest = own_from s.definition.table tx.defs (j + 1) (drop (j + 1) tx.changes) in
     let split = cut tx s.definition.table j c lt (sym is) in
     record {
-      entries = ap (λ (xs : List Entry). xs ++ flat_map (emit s tx.lsn) rest) e ∙ append_assoc made (flat_map (emit s tx.lsn) own) (flat_map (emit s tx.lsn) rest)
-          ∙ ap (λ (xs : List Entry). made ++ xs) (sym (flat_map-append (emit s tx.lsn) own rest) ∙ ap (flat_map (emit s tx.lsn)) (sym split)) ∙ l.entries;
+      made = l.made ++ flat_map (emit s tx.lsn) own;
+      writes = adds l.made l.writes;
+      entries = append_assoc l.made (flat_map (emit s tx.lsn) own) (flat_map (emit s tx.lsn) rest)
+          ∙ ap (λ (xs : List Entry). l.made ++ xs) (sym (flat_map-append (emit s tx.lsn) own rest) ∙ ap (flat_map (emit s tx.lsn)) (sym split)) ∙ l.entries;
       stop = sym (ap (λ (b : Bool). b || list_any (stops s) rest) (sym keeps)) ∙ sym (list_any-append (stops s) own rest) ∙ ap (list_any (stops s)) (sym split) ∙ l.stop;
     }
 
-pub left_stops : (s : Knows) (tx : Tx) (j : ℕ) (made : List Entry) (c : Change) → j < length tx.changes → c ≡ get_or tx.changes j c → Left s tx j made
+pub left_stops : (s : Knows) (tx : Tx) (j : ℕ) (written : Texts) (c : Change) → j < length tx.changes → c ≡ get_or tx.changes j c → Left s tx j written
     → true ≡ list_any (stops s) (own_of s.definition.table j c.kind (slice_get tx.defs c.def) []) → true ≡ list_any (stops s) (changes_of s.definition.table tx)
-left_stops s tx j made c lt is l stop =
+left_stops s tx j written c lt is l stop =
     let own = own_of s.definition.table j c.kind (slice_get tx.defs c.def) [] in
     let rest = own_from s.definition.table tx.defs (j + 1) (drop (j + 1) tx.changes) in
     ap (λ (b : Bool). b || list_any (stops s) rest) stop ∙ sym (list_any-append (stops s) own rest) ∙ ap (list_any (stops s)) (sym (cut tx s.definition.table j c lt (sym is))) ∙ l.stop
@@ -158,11 +167,11 @@ left_stops s tx j made c lt is l stop =
 drop_all : {A : Type 0} (xs : List A) (j : ℕ) → length xs ≤ j → drop j xs ≡ []
 drop_all xs j h = drop_of_length-le xs h
 
-pub left_none : (s : Knows) (tx : Tx) (j : ℕ) (made : List Entry) → length tx.changes ≤ j → Left s tx j made
-    → (made ≡ flat_map (emit s tx.lsn) (changes_of s.definition.table tx)) × (false ≡ list_any (stops s) (changes_of s.definition.table tx))
-left_none s tx j made h l =
+pub left_none : (s : Knows) (tx : Tx) (j : ℕ) (written : Texts) → length tx.changes ≤ j → Left s tx j written
+    → Writes written (flat_map (emit s tx.lsn) (changes_of s.definition.table tx)) × (false ≡ list_any (stops s) (changes_of s.definition.table tx))
+left_none s tx j written h l =
     let none = ap (own_from s.definition.table tx.defs j) (drop_all tx.changes j h) in
-    (sym (append-nil made) ∙ ap (λ (os : List Own). made ++ flat_map (emit s tx.lsn) os) (sym none) ∙ l.entries, ap (list_any (stops s)) (sym none) ∙ l.stop)
+    (subst (λ (es : List Entry). Writes written es) (sym (append-nil l.made) ∙ ap (λ (os : List Own). l.made ++ flat_map (emit s tx.lsn) os) (sym none) ∙ l.entries) l.writes, ap (list_any (stops s)) (sym none) ∙ l.stop)
 
 -- each of a list
 pub all_at : {A : Type 0} (P : A → Type 0) (xs : List A) (i : ℕ) (d : A) → AllByRecursion P xs → i < length xs → P (get_or xs i d)

@@ -55,10 +55,6 @@ added r l bytes tx es (Fits written) none is weighed = (
 )
 added r l bytes tx es (Drops cause) none is weighed = ap₂ (λ (o : Option Cause) (n : ℕ). or_else o (log_full l (bytes + n))) none (ap bytes_of (sym is)) ∙ weighed
 
-pub added_ok : (r : Reader) (l : Limits) (bytes : ℕ) (tx : Tx) (es : List Entry) (result : Result Addition OutOfMemory) → first_stop r tx.lsn (own_changes r tx) ≡ None → es ≡ entries_in r.knows tx → IfOk result (IsWeighed l bytes es) → IfOk result (IsAddition r l bytes tx)
-added_ok r l bytes tx es (Ok a) none is weighed = added r l bytes tx es a none is weighed
-added_ok r l bytes tx es (Err e) none is weighed = tt
-
 pub all_over : (l : Limits) (bytes sum : ℕ) → sum ≡ capped bytes → l.all < sum → Some (AllLogsFull sum l.all) ≡ all_full l bytes
 all_over l bytes sum is lt = sym (over l.all bytes sum (Some (AllLogsFull (capped bytes) l.all)) None is lt ∙ ap (λ (n : ℕ). Some (AllLogsFull n l.all)) (sym is))
 

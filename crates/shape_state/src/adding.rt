@@ -1,18 +1,20 @@
 //! What a commit adds to the log of a shape, or why it drops the shape.
-ghost use Rattle.std.specs.Prelude.{◌≡◌, ◌<◌, ℕ, true, IfOk};
+ghost use Rattle.std.specs.Prelude.{◌≡◌, ◌<◌, ℕ, List, true, IfOk};
 ghost use Rattle.std.specs.List.{list_any};
 ghost use Rattle.shape_base.specs.declared.limits.Limits.{Limits};
+ghost use Rattle.shape_base.specs.declared.entry.Entry.{Entry};
 ghost use Rattle.shape_base.specs.Tables.{changes_of};
 ghost use Rattle.shape_base.specs.Shape.{stops};
 ghost use Rattle.shape_base.specs.Transactions.{IsWhole};
 ghost use Rattle.shape_json.specs.ShapeHistory.{Reader};
+ghost use Rattle.chunked_log.specs.Chunked.{Writes};
 ghost use Rattle.shape_state.specs.Reading.{reader_of};
 ghost use Rattle.shape_state.specs.Additions.{IsWeighed, IsAddition};
 
 use crate::stopping::first_stop;
 use change_map::Emitter;
 use chunked_log::Written;
-use shape_base::{Cause, Entries, Limits, OutOfMemory, RowTest, Tx};
+use shape_base::{Cause, Limits, OutOfMemory, RowTest, Tx};
 use shape_entries::commit_entries;
 use std::alloc::Global;
 
@@ -25,23 +27,17 @@ pub(crate) enum Addition {
     Drops { cause: Cause },
 }
 
-/// What entries do to a log of so many bytes: they are written where it may have them.
-fn weighed(
-    alloc: Global,
-    limits: &Limits,
-    bytes: u64,
-    entries: &Entries,
-) -> Result<Addition, OutOfMemory>
-    ensures { IfOk result (IsWeighed limits.now bytes entries.now) }
+/// What written entries do to a log of so many bytes: they are for it where it may have them.
+fn weighed(limits: &Limits, bytes: u64, written: Written) -> Addition
+    ensures { (entries : List Entry) → Writes written entries → IsWeighed limits.now bytes entries result }
 {
-    let written = Written::of(alloc, entries)?;
     let bytes = bytes.saturating_add(written.bytes());
     let limit = limits.log;
     if bytes > limit {
         let cause = Cause::LogFull { bytes, limit };
-        return Ok(Addition::Drops { cause });
+        return Addition::Drops { cause };
     }
-    Ok(Addition::Fits { written })
+    Addition::Fits { written }
 }
 
 /// What a commit does that stops the shape.
@@ -72,7 +68,7 @@ pub(crate) fn added_by<T: RowTest>(
     ensures { IfOk result (IsAddition (reader_of (T.knows emitter.now.test) (T.unread emitter.now.test)) limits.now bytes tx.now) }
 {
     match commit_entries(alloc, emitter, tx)? {
-        Some(entries) => weighed(alloc, limits, bytes, &entries),
+        Some(written) => Ok(weighed(limits, bytes, written)),
         None => stopped(alloc, emitter, tx),
     }
 }
