@@ -11,3 +11,4 @@ mod Passing
 mod Counting
 mod Effects
 mod Committing
+mod Reaching
