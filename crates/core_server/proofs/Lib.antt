@@ -16,3 +16,4 @@ mod Counting
 mod Effects
 mod Committing
 mod Liveness
+mod Reaching

@@ -1,5 +1,5 @@
 use Rattle.std.proofs.Common.{◌∙◌, sym}
-use Rattle.core_server.proofs.Committing.{some_back, catalog_back}
+use Rattle.core_server.proofs.Reaching.{some_back, catalog_back}
 use Rattle.core_server.proofs.commits.remove_from.Goals as goal
 
 pub returns-clause-removed : goal.returns-clause-removed

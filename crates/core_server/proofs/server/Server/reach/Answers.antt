@@ -2,7 +2,7 @@ use Rattle.std.proofs.Common.{refl, sym, subst}
 use Rattle.std.specs.List.{AllByRecursion}
 use Rattle.core_server.specs.Standing.{Stands, IsNew}
 use Rattle.core_server.specs.Committing.{IsTakenUp}
-use Rattle.core_server.proofs.Committing.{goes_on, away, removed_is, quiet_is, loud_is, definition_new}
+use Rattle.core_server.proofs.Reaching.{goes_on, away, removed_is, quiet_is, loud_is, definition_new}
 use Rattle.core_server.proofs.server.Server.reach.Goals as goal
 
 pub redefine_by-requires-clause-situated : goal.redefine_by-requires-clause-situated

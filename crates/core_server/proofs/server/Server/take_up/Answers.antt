@@ -1,7 +1,7 @@
 use Rattle.std.proofs.Common.{refl, sym}
 use Rattle.core_law.specs.Situation.{registry_start}
 use Rattle.core_server.specs.Standing.{reader_in}
-use Rattle.core_server.proofs.Committing.{lives_here, may_take, takes_up, stays, on_some_is, on_any_err}
+use Rattle.core_server.proofs.Reaching.{lives_here, may_take, takes_up, stays, on_some_is, on_any_err}
 use Rattle.core_server.proofs.server.Server.take_up.Goals as goal
 
 pub take_commit-requires-clause-later : goal.take_commit-requires-clause-later
