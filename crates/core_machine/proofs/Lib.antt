@@ -1,0 +1,12 @@
+pub mod Answers
+pub mod Places
+pub mod Finishing
+pub mod Turning
+pub mod Quiet
+pub mod Agreeing
+pub mod Requests
+pub mod Changing
+pub mod Receiving
+pub mod Exchanging
+pub mod Removing
+pub mod Sending

@@ -1,0 +1,127 @@
+-- A number that is dropped, and the clock.
+use Rattle.std.proofs.Common.{◌≡◌, ℕ, zero, suc, Bool, true, false, List, [], ◌∷◌, map, refl, sym, ap, subst, ◌∙◌, Option, None, Some}
+use Rattle.std.specs.Prelude.{nat_lt}
+use Rattle.std.specs.Bool.{if◌then◌else◌}
+use Rattle.shape_base.specs.declared.cause.Cause.TheVariants.{Deleted}
+use Rattle.shape_base.specs.RegistryHistory.{is_live}
+use Rattle.core_events.specs.declared.out.Out.{Out}
+use Rattle.core_events.specs.declared.out.Unfit.TheVariants as unfit
+use Rattle.core_law.specs.Situation.{Options, Server, Exchange, Situation}
+use Rattle.core_law.specs.Steps.{change_at, settled_one, settled, dropped}
+use Rattle.core_law.specs.Clients.{Turn, Goes, finished, never, is_unfit}
+use Rattle.core_law.specs.Run.{Event, Remove, Moment, turn_of, next_of, is_late_at}
+use Rattle.core_law.specs.Laws.{IsStart}
+use Rattle.core_law.specs.Reached.{IsReached, HaveShortLogs}
+use Rattle.core_law.proofs.Lemmas.{reached_next, roles_are_given, others_wait, replies_say}
+use Rattle.core_server.specs.declared.server.Server.{Server as KeptServer}
+use Rattle.core_server.specs.Standing as server
+use Rattle.core_exchanges.specs.declared.exchanges.Exchanges.{Exchanges}
+use Rattle.core_exchanges.specs.Standing as exchanges
+use Rattle.core_exchanges.specs.Standing.{ArePlaces, awaits}
+use Rattle.core_exchanges.specs.Giving.{is_late}
+use Rattle.core_clients.specs.Standing as clients
+use Rattle.core_machine.specs.declared.machine.Machine.{Machine}
+use Rattle.core_machine.specs.Firsts.{first_asked, AreServed}
+use Rattle.core_machine.specs.Replying.{answered_in}
+use Rattle.core_machine.specs.Answering.{AreGivenNumbers, Halfway, Answered, settled_at, texts_at}
+use Rattle.core_machine.specs.Awaiting.{IsAwaitingAnswered}
+use Rattle.core_machine.specs.Opening.{SparesClients}
+use Rattle.core_machine.specs.Standing.{Stands}
+use Rattle.core_machine.specs.Turns.{GoesOn}
+use Rattle.core_machine.proofs.Requests.{refused_as}
+use Rattle.core_machine.proofs.Changing.{awaiting_settles, moment_settles}
+use Rattle.core_machine.proofs.Quiet.{quiet_dropped, short_dropped}
+use Rattle.core_machine.proofs.Turning.{Around, settles, goes}
+
+change_same : (f : Exchange → Exchange) (xs : List Exchange) (i : ℕ) → ((x : Exchange) → f x ≡ x) → xs ≡ change_at f xs i
+change_same f [] i h = refl
+change_same f (x ∷ xs) zero h = ap (λ y. y ∷ xs) (sym (h x))
+change_same f (x ∷ xs) (suc i) h = ap (λ ys. x ∷ ys) (change_same f xs i h)
+
+roles_settled : (o : Options) (v : Server) (late : Exchange → Bool) (xs : List Exchange) → AreGivenNumbers v (map (λ (x : Exchange). settled_one o v late x x.given) xs) → AreGivenNumbers v xs
+roles_settled o v late [] h = tt
+roles_settled o v late (x ∷ xs) h = (subst (Rattle.core_law.specs.Reached.WasGiven v) (role_same x x.given) h.0, roles_settled o v late xs h.1)
+  where
+    role_same : (x : Exchange) (g : Option Rattle.fold_client.specs.Following.Heard) → (settled_one o v late x g).role ≡ x.role
+    role_same x None = refl
+    role_same x (Some h) = refl
+
+-- what the clients were stays
+pub around : (o : Options) (s : Situation) (m m' : Machine) → Stands o s m → SparesClients m m' → Around o s m'
+around o s m m' h spares = record {
+  clients = subst (λ c. clients.Stands c s.customers) (sym spares.clients) h.clients;
+  asks = ap (λ a. map first_asked a.items) spares.asks ∙ h.asks;
+  served = subst (λ a. AreServed o.tables a.items) (sym spares.asks) h.served;
+  clock = spares.clock ∙ h.clock;
+  hold = spares.hold ∙ h.hold;
+  defined = h.defined;
+}
+
+-- ---- an event after which each exchange is tried that something may have happened to
+
+-- the situation after an event
+abbrev pub next_by : Options → Situation → Event → Situation
+next_by o s e = next_of s (turn_of o s e)
+
+module _ (o : Options) (s t : Situation) (e : Event) (late : Exchange → Bool) (turn : turn_of o s e ≡ finished o late s t) (start : IsStart o) (reached : IsReached o s) (exchanges_ : t.exchanges ≡ s.exchanges) where
+  abbrev next : Situation
+  next = next_by o s e
+
+  pub server_next : next.server ≡ t.server
+  server_next = ap (λ u. (next_of s u).server) turn
+
+  pub reached_settled : IsReached o (settled o late t)
+  reached_settled = subst (IsReached o) (ap (next_of s) turn) (reached_next o s e reached)
+
+  roles_next : AreGivenNumbers next.server s.exchanges
+  roles_next = subst (λ (v : Server). AreGivenNumbers v s.exchanges) (sym server_next) (subst (λ (xs : List Exchange). AreGivenNumbers t.server xs) exchanges_ (roles_settled o t.server late t.exchanges (roles_are_given o (settled o late t) reached_settled)))
+
+  pub halfway_next : (v : KeptServer) (u : Exchanges) → server.Stands o t.server v → exchanges.Stands u s.exchanges → Halfway o next s.exchanges v u
+  halfway_next v u stands there = record {
+    start = start;
+    reached = reached_next o s e reached;
+    server = subst (λ (w : Server). server.Stands o w v) (sym server_next) stands;
+    exchanges = there;
+    roles = roles_next;
+  }
+
+-- ---- a number that is dropped
+
+module _ (o : Options) (s : Situation) (n : ℕ) (live : is_live s.server.registry n ≡ true) where
+  abbrev pub without : Situation
+  without = record s { server = dropped s.server n Deleted }
+
+  pub removes : turn_of o s (Remove n) ≡ finished o never s without
+  removes = ap (λ b. if b then finished o never s without else Goes [] s) live
+
+  pub removed : (m m' : Machine) (now : List Out) → Stands o s m → server.Stands o without.server m'.server → SparesClients m m'
+      → IsAwaitingAnswered o (next_by o s (Remove n)) s.exchanges m' n None now → GoesOn o (turn_of o s (Remove n)) now m'
+  removed m m' now h stands spares aw =
+      let same : (next_by o s (Remove n)).server ≡ without.server = server_next o s without (Remove n) never removes h.start h.reached refl in
+      let settled_ = settles o s without never (answered_in o without.server false None) aw.places s.exchanges
+      (awaiting_settles others_wait o s without (Remove n) n 0 None aw.places h.start h.reached h.of_tables same (change_same (refused_as without.server None) s.exchanges 0 (λ x. refl)) aw.await (λ none. cc) (λ k other. quiet_dropped s.server n k Deleted other)) in
+      subst (λ (u : Turn). GoesOn o u now m') (sym removes)
+      (goes replies_say o s without never m' now h.start (reached_settled o s without (Remove n) never removes h.start h.reached refl) (short_dropped s.server n Deleted h.short) h.said h.of_tables (let a = around o s m m' h spares in record { clients = a.clients; asks = a.asks; served = a.served; clock = a.clock; hold = a.hold; defined = a.defined }) stands
+      (subst (λ (ys : List Exchange). exchanges.Stands m'.exchanges ys) (sym settled_.same) (subst (λ (v : Server). exchanges.Stands m'.exchanges (settled_at (answered_in o v false None) aw.places s.exchanges)) same aw.halfway.exchanges))
+      (aw.outs_are ∙ ap (λ (v : Server). texts_at (answered_in o v false None) aw.places s.exchanges) same ∙ settled_.texts))
+
+-- ---- the clock
+
+module _ (o : Options) (s : Situation) (now : ℕ) (later : nat_lt now s.clock ≡ false) where
+  abbrev pub at_moment : Situation
+  at_moment = record s { clock = now }
+
+  pub moves : turn_of o s (Moment now) ≡ finished o (is_late_at o now) s at_moment
+  moves = ap (λ b. if b then is_unfit unfit.ClockBack else finished o (is_late_at o now) s at_moment) later
+
+  pub moved : (m m' : Machine) (outs : List Out) (places : List ℕ) → Stands o s m → ArePlaces (is_late o now) s.exchanges places → server.Stands o s.server m'.server → Around o at_moment m'
+      → Answered o (next_by o s (Moment now)) (settled_at (answered_in o (next_by o s (Moment now)).server true None) places s.exchanges) m'.server m'.exchanges [] outs
+      (texts_at (answered_in o (next_by o s (Moment now)).server true None) places s.exchanges)
+      → GoesOn o (turn_of o s (Moment now)) outs m'
+  moved m m' outs places h are stands around_ answered =
+      let same : (next_by o s (Moment now)).server ≡ s.server = server_next o s at_moment (Moment now) (is_late_at o now) moves h.start h.reached refl in
+      let settled_ = settles o s at_moment (is_late_at o now) (answered_in o s.server true None) places s.exchanges (moment_settles others_wait o s now (Moment now) places h.start h.reached h.of_tables same are) in
+      subst (λ (u : Turn). GoesOn o u outs m') (sym moves)
+      (goes replies_say o s at_moment (is_late_at o now) m' outs h.start (reached_settled o s at_moment (Moment now) (is_late_at o now) moves h.start h.reached refl) h.short h.said h.of_tables around_ stands
+      (subst (λ (ys : List Exchange). exchanges.Stands m'.exchanges ys) (sym settled_.same) (subst (λ (v : Server). exchanges.Stands m'.exchanges (settled_at (answered_in o v true None) places s.exchanges)) same answered.halfway.exchanges))
+      (answered.outs ∙ ap (λ (v : Server). texts_at (answered_in o v true None) places s.exchanges) same ∙ settled_.texts))
