@@ -1,30 +1,15 @@
 -- The lines of the output.
 use Rattle.std.specs.Prelude.{ℕ, List, [], ◌∷◌, ◌++◌, length, codes, decimal}
 use Rattle.std.specs.List.{flat_map}
-use Rattle.json.specs.Token.{Token, begin_object, end_object, key, string, null}
-use Rattle.json.specs.Print.{print}
-use Rattle.shape_base.specs.declared.value.Value.{Value}
-use Rattle.shape_base.specs.declared.value.Value.TheVariants.{Null, Words}
 use Rattle.shape_base.specs.declared.offset.Offset.{Offset}
-use Rattle.shape_base.specs.declared.entry.Cell.{Cell}
 use Rattle.shape_base.specs.OffsetText.{offset_text}
 use Rattle.shape_base.specs.Shape.{Keyed}
+use Rattle.shape_json.specs.Body.{row_text}
 use Rattle.shape_replay.specs.Run.{Out, Block, End}
-
-abbrev pub value_token : Value → Token
-value_token Null = null
-value_token (Words words) = string words
-
-abbrev pub cell_tokens : Cell → List Token
-cell_tokens c = key c.name ∷ value_token c.value ∷ []
-
--- the cells as the tokens of a JSON object
-abbrev pub object_tokens : List Cell → List Token
-object_tokens cells = begin_object ∷ flat_map cell_tokens cells ++ end_object ∷ []
 
 -- a row: its key as a JSON string, a space, its cells as a JSON object
 abbrev pub row_line : Keyed → List ℕ
-row_line row = print (string row.0 ∷ []) ++ 32 ∷ print (object_tokens row.1) ++ 10 ∷ []
+row_line row = row_text (record { key = row.0; cells = row.1 }) ++ codes "\n"
 
 -- the first line of a block; the only handle is 1-replay
 abbrev pub block_line : ℕ → Offset → ℕ → List ℕ

@@ -2,19 +2,17 @@
 ghost use Rattle.std.specs.Prelude.{◌≡◌, ◌≤◌, ◌++◌, ◌∷◌, [], true, length, IfOk, IfErr, OnOk, OnErr, IsErrOf};
 ghost use Rattle.std.specs.FinMap as fin;
 ghost use Rattle.std.specs.String.{string_bytes};
-ghost use Rattle.json.specs.Token.{string};
-ghost use Rattle.json.specs.Print.{print};
 ghost use Rattle.shape_base.specs.Outside.{Rose, AddsFront};
 ghost use Rattle.shape_base.specs.Maps.{map_in};
 ghost use Rattle.shape_replay.specs.Run.{Block, End};
-ghost use Rattle.shape_replay.specs.Text.{value_token, cell_tokens, object_tokens, row_line, block_line, text_of};
+ghost use Rattle.shape_replay.specs.Text.{row_line, block_line, text_of};
 ghost use Rattle.shape_replay.specs.Reading.{IsOfWriting};
 ghost use Rattle.shape_replay.specs.Playing.{Wrote};
 
 use crate::client::Client;
 use crate::stop::Stop;
-use json::Writer;
-use shape_base::{Cell, Cells, OutOfMemory, Sink, Text, Value};
+use shape_base::{Cells, OutOfMemory, Sink, Text};
+use shape_json::push_keyed;
 use std::alloc::{AllocError, Global};
 
 /// How many bytes are gathered before they are written.
@@ -23,46 +21,11 @@ const PIECE: usize = 4_096;
 /// The number of the one client.
 const CLIENT: u64 = 0;
 
-fn put_value(writer: &mut Writer, value: &Value) -> Result<(), AllocError>
-    ensures before { writer.new.before ≡ writer.old.before }
-    ensures tokens { OnOk result (writer.new.tokens ≡ writer.old.tokens ++ value_token value.now ∷ []) }
-{
-    match value {
-        Value::Null => writer.null(),
-        Value::Words(words) => writer.string(words.as_str()),
-    }
-}
-
-fn put_cell(writer: &mut Writer, cell: &Cell) -> Result<(), AllocError>
-    ensures before { writer.new.before ≡ writer.old.before }
-    ensures tokens { OnOk result (writer.new.tokens ≡ writer.old.tokens ++ cell_tokens cell.now) }
-{
-    writer.key(cell.name.as_str())?;
-    put_value(writer, &cell.value)
-}
-
-fn put_cells(writer: &mut Writer, cells: &Cells) -> Result<(), AllocError>
-    ensures before { writer.new.before ≡ writer.old.before }
-    ensures tokens { OnOk result (writer.new.tokens ≡ writer.old.tokens ++ object_tokens cells.now) }
-{
-    writer.begin_object()?;
-    for cell in cells.as_slice() {
-        put_cell(writer, cell)?;
-    }
-    writer.end_object()
-}
-
 /// The bytes and the line of a row after them.
-fn add_row(bytes: Vec<u8>, key: &Text, cells: &Cells) -> Result<Vec<u8>, AllocError>
+fn add_row(mut bytes: Vec<u8>, key: &Text, cells: &Cells) -> Result<Vec<u8>, OutOfMemory>
     ensures { IfOk result (λ made. made.items ≡ bytes.items ++ row_line (key.now, cells.now)) }
 {
-    let mut writer = Writer::new(bytes);
-    writer.string(key.as_str())?;
-    let mut bytes = writer.into_inner();
-    bytes.push(b' ')?;
-    let mut writer = Writer::new(bytes);
-    put_cells(&mut writer, cells)?;
-    let mut bytes = writer.into_inner();
+    push_keyed(&mut bytes, key, cells)?;
     bytes.push(b'\n')?;
     Ok(bytes)
 }
