@@ -6,3 +6,4 @@ pub mod Turns
 pub mod Opening
 pub mod Awaiting
 pub mod Customers
+pub mod Faults

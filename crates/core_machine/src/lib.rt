@@ -6,10 +6,13 @@
 mod answering;
 mod changes;
 mod customers;
+mod fault;
 mod first;
 mod machine;
 mod opening;
 mod replying;
+mod snapshots;
 
+pub use fault::Fault;
 pub use first::{First, code_of};
 pub use machine::Machine;

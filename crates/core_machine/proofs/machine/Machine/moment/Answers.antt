@@ -16,7 +16,7 @@ answer_all-requires c =
     let h = c.requires.stands in
     let now = c.args.now in
     let later : nat_lt now s.clock ≡ false = grind (arith, nat_tests, c.if-now-self.false, h.clock) in
-    record { options = o; situation = next_by o s (Moment now); asked = s.exchanges; halfway = halfway_next o s (at_moment o s now later) (Moment now) (is_late_at o now) (moves o s now later) h.start h.reached refl c.args.self.now.server c.args.self.now.exchanges h.server h.exchanges }
+    record { options = o; situation = next_by o s (Moment now); asked = s.exchanges; halfway = halfway_next o s (at_moment o s now later) (Moment now) (is_late_at o now) (moves o s now later) h.start h.reached (λ v is. is) c.args.self.now.server c.args.self.now.exchanges h.server h.exchanges }
 
 pub returns : goal.returns
 returns c o s h =
@@ -24,7 +24,7 @@ returns c o s h =
     let later : nat_lt now s.clock ≡ false = grind (arith, nat_tests, c.if-now-self.false, h.clock) in
     let z = next_by o s (Moment now) in
     let f = answered_in o z.server true None in
-    let half = halfway_next o s (at_moment o s now later) (Moment now) (is_late_at o now) (moves o s now later) h.start h.reached refl c.args.self.now.server c.args.self.now.exchanges h.server h.exchanges in
+    let half = halfway_next o s (at_moment o s now later) (Moment now) (is_late_at o now) (moves o s now later) h.start h.reached (λ v is. is) c.args.self.now.server c.args.self.now.exchanges h.server h.exchanges in
     moved o s now later c.args.self.now _ c.answer_all.new.outs c.in_ok-places.places.items h
     (c.in_ok-places.ensures o s.exchanges h.exchanges (exchanges_rise o s h.reached) (sym h.hold)) h.server
     (record { clients = h.clients; asks = h.asks; served = h.served; clock = refl; hold = h.hold; defined = h.defined })

@@ -13,13 +13,13 @@ answer_awaiting-requires c =
     let h = c.requires.stands in
     let n = c.args.number in
     let live : is_live s.server.registry n ≡ true = sym (c.is_live.ensures o s.server h.server) ∙ c.if-not-is_live.false in
-    record { options = o; situation = next_by o s (Remove n); asked = s.exchanges; halfway = halfway_next o s (without o s n live) (Remove n) never (removes o s n live) h.start h.reached refl c.remove.new.self c.args.self.now.exchanges (c.remove.ensures o s.server h.server) h.exchanges }
+    record { options = o; situation = next_by o s (Remove n); asked = s.exchanges; halfway = halfway_next o s (without o s n live) (Remove n) never (removes o s n live) h.start h.reached (λ v is. is) c.remove.new.self c.args.self.now.exchanges (c.remove.ensures o s.server h.server) h.exchanges }
 
 pub returns : goal.returns
 returns c o s h =
     let n = c.args.number in
     let live : is_live s.server.registry n ≡ true = sym (c.is_live.ensures o s.server h.server) ∙ c.if-not-is_live.false in
-    let half = halfway_next o s (without o s n live) (Remove n) never (removes o s n live) h.start h.reached refl c.remove.new.self c.args.self.now.exchanges (c.remove.ensures o s.server h.server) h.exchanges in
+    let half = halfway_next o s (without o s n live) (Remove n) never (removes o s n live) h.start h.reached (λ v is. is) c.remove.new.self c.args.self.now.exchanges (c.remove.ensures o s.server h.server) h.exchanges in
     let spares = (c.in_ok-answer_awaiting.ensures).spares in
     removed o s n live c.args.self.now c.answer_awaiting.new.self c.in_ok-answer_awaiting.field-0 h
     (subst (λ v. server.Stands o (without o s n live).server v) (sym (c.in_ok-answer_awaiting.ensures).server) (c.remove.ensures o s.server h.server))
