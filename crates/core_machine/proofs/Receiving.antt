@@ -36,10 +36,11 @@ use Rattle.core_clients.specs.Taking as taking
 use Rattle.core_machine.specs.declared.first.First.{First}
 use Rattle.core_machine.specs.declared.machine.Machine.{Machine}
 use Rattle.core_machine.specs.Firsts.{first_asked, IsServedFirst, AreServed}
-use Rattle.core_machine.specs.Customers.{is_target, TookIt}
-use Rattle.core_machine.specs.Standing.{AreSaid, Stands}
+use Rattle.core_machine.specs.Customers.{is_target, TookIt, Receipt}
+use Rattle.core_machine.specs.Standing.{AreSaid, Stands, IsSituated}
 use Rattle.core_machine.specs.Turns.{IsOut, AreOuts, GoesOn}
 use Rattle.core_machine.proofs.Answers.{all_at}
+use Rattle.core_machine.proofs.Turning.{situated}
 
 -- ---- small facts
 
@@ -192,3 +193,13 @@ said_at xs i x h said at given = subst (λ (g : Option Heard). IfSome g (λ (k :
 
 pub heard_as : (reply : Reply) (h : Heard) → h.given.reply ≡ reply → Says h.given.reply.body h.body → taking.IsHeard reply h
 heard_as reply h same says = record { reply_is = same; says = subst (λ (r : Reply). Says r.body h.body) same says }
+
+-- a machine whose client took a reply stands for some situation
+took_situated : (o : Options) (s : Situation) (n e : ℕ) (c : Customer) (x : Exchange) (h : Option Heard) (received : Received) (m : Machine) → TookIt o s n e c x h received m → IsSituated m
+took_situated o s n e c x None received m h = absurd h
+took_situated o s n e c x (Some k) received m h = situated o (take_by s n e (Some c)) received.outs m h.0
+
+pub receipt_situated : (o : Options) (s : Situation) (n e : ℕ) (a : Option Customer) (b : Option Exchange) (received : Received) (m : Machine) → Receipt o s n e a b received m → IsSituated m
+receipt_situated o s n e None b received m h = absurd h
+receipt_situated o s n e (Some c) None received m h = absurd h
+receipt_situated o s n e (Some c) (Some x) received m h = took_situated o s n e c x x.given received m h

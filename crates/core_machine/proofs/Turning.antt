@@ -13,7 +13,7 @@ use Rattle.fold_client.specs.Following.{Heard}
 use Rattle.core_events.specs.declared.out.Out.{Out}
 use Rattle.core_law.specs.Situation.{Options, Server, Reads, Role, Exchange, Customer, Situation}
 use Rattle.core_law.specs.Steps.{Written, change_at, refused_with, heard_at, reply_now, settled_one, settled, refused_at}
-use Rattle.core_law.specs.Clients.{given_now, finished}
+use Rattle.core_law.specs.Clients.{given_now, finished, Turn, Goes, Stops}
 use Rattle.core_law.specs.Laws.{IsStart}
 use Rattle.core_law.specs.Reached.{IsReached, HaveShortLogs, AsksOfTable, RepliesSay}
 use Rattle.core_exchanges.specs.Indexing.{is_among}
@@ -23,7 +23,7 @@ use Rattle.core_clients.specs.Standing as clients
 use Rattle.core_machine.specs.declared.machine.Machine.{Machine}
 use Rattle.core_machine.specs.Firsts.{first_asked, AreServed}
 use Rattle.core_machine.specs.Answering.{settled_at, texts_at, texts_now}
-use Rattle.core_machine.specs.Standing.{AreSaid, AreOfTables}
+use Rattle.core_machine.specs.Standing.{AreSaid, AreOfTables, IsSituated}
 use Rattle.core_machine.specs.Turns.{AreOuts, GoesOn}
 use Rattle.core_machine.proofs.Finishing.{all_outs, AreInside, texts_are, settled_is}
 
@@ -123,3 +123,8 @@ goes say o s t late m outs start reached short said of_tables around server exch
         defined = around.defined;
       },
     )
+
+-- what goes on stands for some situation
+pub situated : (o : Options) (t : Turn) (outs : List Out) (m : Machine) → GoesOn o t outs m → IsSituated m
+situated o (Goes expected next) outs m h = record { options = o; situation = next; stands = h.1 }
+situated o (Stops error) outs m h = absurd h

@@ -41,7 +41,8 @@ impl Machine {
     /// A number is dropped, where it is live.
     pub fn remove(&mut self, number: u64) -> Result<Outs, StepError>
         requires { IsSituated self.old }
-        ensures { Takes self.old self.new (Remove number) result }
+        ensures takes { Takes self.old self.new (Remove number) result }
+        ensures situated { OnOk result (IsSituated self.new) }
     {
         if !self.server.is_live(number) {
             return Ok(Outs::new(self.alloc));
@@ -53,7 +54,8 @@ impl Machine {
     /// The clock shows so many milliseconds. Each live request that was held for as long as it may be is answered.
     pub fn moment(&mut self, now: u64) -> Result<Outs, StepError>
         requires { IsSituated self.old }
-        ensures { Takes self.old self.new (Moment now) result }
+        ensures takes { Takes self.old self.new (Moment now) result }
+        ensures situated { OnOk result (IsSituated self.new) }
     {
         if now < self.clock {
             let cause = Unfit::ClockBack;

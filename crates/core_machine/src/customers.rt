@@ -58,8 +58,10 @@ fn is_target(target: &Option<Text>, next: &Text) -> bool
 impl Machine {
     /// A client joins, with what its first target asks for.
     pub fn join(&mut self, query: Query, first: First) -> Result<Outs, StepError>
-        requires { IsServedFirst self.old.server.tables first }
-        ensures { Takes self.old self.new (Joined query (first_asked first)) result }
+        requires situated { IsSituated self.old }
+        requires served { IsServedFirst self.old.server.tables first }
+        ensures takes { Takes self.old self.new (Joined query (first_asked first)) result }
+        ensures situated { OnOk result (IsSituated self.new) }
     {
         self.clients.join(query)?;
         put(&mut self.asks, first)?;
@@ -99,7 +101,8 @@ impl Machine {
     /// A client asks for its next part, by an exchange that is then its open one.
     pub fn send_next(&mut self, client: u32) -> Result<Outs, StepError>
         requires { IsSituated self.old }
-        ensures { Takes self.old self.new (SendNext client) result }
+        ensures takes { Takes self.old self.new (SendNext client) result }
+        ensures situated { OnOk result (IsSituated self.new) }
     {
         let Some(target) = self.clients.next_target(client)? else {
             return Err(unfit(Unfit::NoClient));
@@ -140,7 +143,9 @@ impl Machine {
 
     /// A client takes the reply of an exchange whose target is its next one, and forgets its open exchange.
     pub fn receive(&mut self, client: u32, exchange: u32) -> Result<Outs, StepError>
-        ensures { Takes self.old self.new (Receive client exchange) result }
+        requires { IsSituated self.old }
+        ensures takes { Takes self.old self.new (Receive client exchange) result }
+        ensures situated { OnOk result (IsSituated self.new) }
     {
         let received = self.take(client, exchange)?;
         Ok(received.outs)

@@ -149,7 +149,8 @@ impl Machine {
     ) -> Result<Outs, StepError>
         requires situated { IsSituated self.old }
         requires served { IsServed self.old asked }
-        ensures { Takes self.old self.new (RequestCame target (asked_of asked) close) result }
+        ensures takes { Takes self.old self.new (RequestCame target (asked_of asked) close) result }
+        ensures situated { OnOk result (IsSituated self.new) }
     {
         if !self.exchanges.has_room() {
             return Err(StepError::TooManyExchanges);
@@ -162,7 +163,8 @@ impl Machine {
     /// A head comes that was cut off.
     pub fn cut(&mut self) -> Result<Outs, StepError>
         requires { IsSituated self.old }
-        ensures { Takes self.old self.new HeadCut result }
+        ensures takes { Takes self.old self.new HeadCut result }
+        ensures situated { OnOk result (IsSituated self.new) }
     {
         if !self.exchanges.has_room() {
             return Err(StepError::TooManyExchanges);

@@ -1,5 +1,5 @@
 //! Snapshots that end without being taken.
-ghost use Rattle.std.specs.Prelude.{◌≡◌};
+ghost use Rattle.std.specs.Prelude.{◌≡◌, OnOk};
 ghost use Rattle.core_law.specs.Situation.{Options, Situation};
 ghost use Rattle.core_law.specs.Run.{SnapshotEnded};
 ghost use Rattle.core_machine.specs.Faults.{fault_of, under_way};
@@ -32,7 +32,8 @@ impl Machine {
     /// The snapshot that an exchange owns ended without being taken. The exchange is refused with the code of the fault, and its number is dropped.
     pub fn snapshot_ended(&mut self, exchange: u32, fault: Fault) -> Result<Outs, StepError>
         requires { IsSituated self.old }
-        ensures { Takes self.old self.new (SnapshotEnded exchange (fault_of fault)) result }
+        ensures takes { Takes self.old self.new (SnapshotEnded exchange (fault_of fault)) result }
+        ensures situated { OnOk result (IsSituated self.new) }
     {
         let Some(number) = self.under_way(exchange) else {
             let cause = Unfit::NotASnapshot;

@@ -2,11 +2,12 @@ use Rattle.std.proofs.Common.{◌≡◌, List, ℕ, true, false, None, refl, sym
 use Rattle.std.specs.Prelude.{nat_lt}
 use Rattle.std.proofs.lemmas.Bool.Decides.{nat_tests}
 use Rattle.core_events.specs.declared.out.Out.{Out}
-use Rattle.core_law.specs.Run.{Moment, is_late_at}
+use Rattle.core_law.specs.Run.{turn_of, Moment, is_late_at}
 use Rattle.core_law.proofs.Lemmas.{exchanges_rise}
 use Rattle.core_machine.specs.Answering.{Answered, settled_at, texts_at}
 use Rattle.core_machine.specs.Replying.{answered_in}
 use Rattle.core_machine.proofs.Removing.{next_by, halfway_next, at_moment, moves, moved}
+use Rattle.core_machine.proofs.Turning.{situated}
 use Rattle.core_machine.proofs.machine.Machine.moment.Goals as goal
 
 pub answer_all-requires : goal.answer_all-requires
@@ -18,8 +19,8 @@ answer_all-requires c =
     let later : nat_lt now s.clock ≡ false = grind (arith, nat_tests, c.if-now-self.false, h.clock) in
     record { options = o; situation = next_by o s (Moment now); asked = s.exchanges; halfway = halfway_next o s (at_moment o s now later) (Moment now) (is_late_at o now) (moves o s now later) h.start h.reached (λ v is. is) c.args.self.now.server c.args.self.now.exchanges h.server h.exchanges }
 
-pub returns : goal.returns
-returns c o s h =
+pub returns-clause-takes : goal.returns-clause-takes
+returns-clause-takes c o s h =
     let now = c.args.now in
     let later : nat_lt now s.clock ≡ false = grind (arith, nat_tests, c.if-now-self.false, h.clock) in
     let z = next_by o s (Moment now) in
@@ -31,3 +32,6 @@ returns c o s h =
     (subst (λ (before : List Out). Answered o z (settled_at f c.in_ok-places.places.items s.exchanges) c.args.self.now.server c.answer_all.new.exchanges before c.answer_all.new.outs (texts_at f c.in_ok-places.places.items s.exchanges)) c.new-outs.ensures
     (subst (λ (ps : List ℕ). Answered o z (settled_at f ps s.exchanges) c.args.self.now.server c.answer_all.new.exchanges c.new-outs.result c.answer_all.new.outs (texts_at f ps s.exchanges)) c.as_slice.ensures.value
     (c.in_ok-answer_all.ensures o z s.exchanges half)))
+
+pub returns-clause-situated : goal.returns-clause-situated
+returns-clause-situated c = let w = c.requires in situated w.options (turn_of w.options w.situation (Moment c.args.now)) _ _ (returns-clause-takes c w.options w.situation w.stands)

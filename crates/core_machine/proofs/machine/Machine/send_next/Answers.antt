@@ -14,10 +14,12 @@ use Rattle.core_machine.specs.Customers.{IsNextAsked}
 use Rattle.core_machine.specs.Opening.{IsRequested}
 use Rattle.core_machine.proofs.Receiving.{customer_there}
 use Rattle.core_machine.proofs.Sending.{of_table, sent_on, long_is, short_is, either_way}
+use Rattle.core_law.specs.Run.{SendNext, turn_of}
+use Rattle.core_machine.proofs.Turning.{situated}
 use Rattle.core_machine.proofs.machine.Machine.send_next.Goals as goal
 
-pub returns : goal.returns
-returns c o s h =
+pub returns-clause-takes : goal.returns-clause-takes
+returns-clause-takes c o s h =
     let m = c.args.self.now in
     let n = c.args.client in
     let target = c.in-Some.target in
@@ -40,3 +42,6 @@ returns c o s h =
     (subst (λ (before : List Out). IsRequested o s (request o s false (Some target) (asked_of c.in-Some-2.asked) false) m c.send.new.self before c.send.new.outs i) c.new-outs.ensures ((c.in_ok-index.ensures).short short o s h))) in
     record { index_is = r.index_is; server = r.server; exchanges = r.exchanges; outs = r.outs })
     waits spares.asks spares.clock spares.hold))
+
+pub returns-clause-situated : goal.returns-clause-situated
+returns-clause-situated c = let w = c.requires in situated w.options (turn_of w.options w.situation (SendNext c.args.client)) _ _ (returns-clause-takes c w.options w.situation w.stands)
