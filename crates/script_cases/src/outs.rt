@@ -1,8 +1,9 @@
 //! Outs, and the lines that are written for them.
+use bytes::Bytes;
 use cases::{bytes_of, cut, number_of, put_bytes, value_of};
 use core_events::{Out, Outs};
 use script::{push_end, push_outs};
-use shape_base::{Cell, Cells, Handle, KeyedRow, KeyedRows, Octets, Offset, OutOfMemory, Text};
+use shape_base::{Cell, Cells, Handle, KeyedRow, KeyedRows, Offset, OutOfMemory, Text};
 use std::alloc::Global;
 
 /// The number of 32 bits that a word spells, or 0 where it spells none.
@@ -67,7 +68,7 @@ fn block_of(alloc: Global, text: &str) -> Result<Out, OutOfMemory> {
 fn given_of(alloc: Global, exchange: &str, bytes: &str) -> Result<Out, OutOfMemory> {
     Ok(Out::Given {
         exchange: small_of(exchange),
-        bytes: Octets::from_vec(bytes_of(alloc, bytes)?),
+        bytes: Bytes::from_vec(bytes_of(alloc, bytes)?)?,
     })
 }
 
