@@ -50,7 +50,9 @@ pub(crate) fn ready_shape(alloc: Global, clause: &str) -> Result<Shape<Def>, Out
         columns: shape.test().definition().columns.copy(alloc)?,
     };
     let limits = shape.limits();
-    let snap = Snap::start(alloc, shape.test(), None, &head, &limits).map_err(|_| OutOfMemory)?;
+    let Ok(snap) = Snap::start(alloc, shape.test(), None, &head, &limits) else {
+        return Err(OutOfMemory);
+    };
     if shape.is_unready() {
         shape.ready(snap).map_err(|_| OutOfMemory)?;
     }
