@@ -1,11 +1,13 @@
 -- What contracts see of written entries and of a log, and the entries that these hold.
 use Rattle.std.specs.Prelude.{◌≡◌, ℕ, ◌+◌, ◌≤◌, List, length, map}
-use Rattle.std.specs.List.{sum}
+use Rattle.std.specs.List.{sum, AllByRecursion}
+use Rattle.std.specs.Str.{IsUtf8}
 use Rattle.shape_base.specs.declared.offset.Offset.{Offset}
 use Rattle.shape_base.specs.declared.entry.Entry.{Entry}
 use Rattle.shape_base.specs.declared.page.Page.{Page}
 use Rattle.shape_json.specs.Body.{entry_text, inner_text}
 use Rattle.shape_json.specs.Page.{Part}
+use Rattle.shape_json.specs.Reading.{HaveOffsets}
 
 -- the offsets of entries, and their texts
 pub record Texts : Type 0 where
@@ -20,18 +22,24 @@ pub record Chunked : Type 0 where
   pub spare : ℕ
   pub room : ℕ
 
+-- each text is UTF-8
+abbrev pub AreUtf8 : List (List ℕ) → Type 0
+AreUtf8 texts = AllByRecursion IsUtf8 texts
+
 abbrev pub offsets_of : List Entry → List Offset
 offsets_of entries = map (λ (e : Entry). e.offset) entries
 
--- These entries were written.
+-- These entries were written, and their offsets have 64 bits.
 pub record Writes (written : Texts) (entries : List Entry) : Type 0 where
   pub offsets : written.offsets ≡ offsets_of entries
   pub texts : written.texts ≡ map entry_text entries
+  pub short : HaveOffsets entries
 
--- The log has these entries.
+-- The log has these entries, and their offsets have 64 bits.
 pub record Holds (log : Chunked) (entries : List Entry) : Type 0 where
   pub offsets : log.offsets ≡ offsets_of entries
   pub texts : log.texts ≡ map entry_text entries
+  pub short : HaveOffsets entries
 
 -- What was written can be appended without memory: there is room for the texts, and for their bytes with a comma for each.
 pub record HasRoom (log : Chunked) (written : Texts) : Type 0 where

@@ -1,6 +1,7 @@
 //! The log.
 ghost use Rattle.std.specs.Prelude.{◌≡◌, ◌↔◌, ℕ, ◌+◌, ◌-◌, ◌<◌, ◌≤◌, ◌^◌, Bool, true, false, List, [], ◌∷◌, ◌++◌, length, map, slice_range, IsOk, IsErr, IfOk, IfErr, OnOk, OnErr};
 ghost use Rattle.std.specs.List.{sum};
+ghost use Rattle.std.specs.Str.{IsUtf8};
 ghost use Rattle.shape_base.specs.declared.offset.Offset.{Offset};
 ghost use Rattle.shape_base.specs.declared.entry.Entry.{Entry};
 ghost use Rattle.shape_base.specs.Offsets.{is_before, end_from, past};
@@ -231,6 +232,7 @@ impl ChunkedLog {
         ensures page { (entries : List Entry) → Holds self.now entries → IfOk result (λ page. Carries page (page_of self.now.least entries offset)) }
         ensures settles { (entries more : List Entry) → Holds self.now entries → IfOk result (λ page. page.up_to_date ≡ false → Carries page (page_of self.now.least (entries ++ more) offset)) }
         ensures filled { (entries : List Entry) → Holds self.now entries → IfOk result (λ page. page.count ≡ 0 → past offset entries ≡ []) }
+        ensures utf8 { IfOk result (λ page. IsUtf8 page.inner) }
         ensures within { OnOk result (is_before (end_of self.now.offsets) offset ≡ false) }
         ensures refused { IfErr result (IsNoPage (end_of self.now.offsets) offset) }
     {
@@ -258,6 +260,7 @@ impl ChunkedLog {
         ensures page { (entries : List Entry) → Holds self.now entries → IfOk result (λ page. Carries page (page_of self.now.least entries offset)) }
         ensures settles { (entries more : List Entry) → Holds self.now entries → IfOk result (λ page. page.up_to_date ≡ false → Carries page (page_of self.now.least (entries ++ more) offset)) }
         ensures filled { (entries : List Entry) → Holds self.now entries → IfOk result (λ page. page.count ≡ 0 → past offset entries ≡ []) }
+        ensures utf8 { IfOk result (λ page. IsUtf8 page.inner) }
         ensures within { OnOk result (is_before (end_of self.now.offsets) offset ≡ false) }
         ensures refused { IfErr result (IsNoPage (end_of self.now.offsets) offset) }
     {

@@ -2,6 +2,7 @@
 ghost use Rattle.std.specs.Prelude.{◌≡◌, ℕ, ◌+◌, ◌<◌, ◌≤◌, ◌^◌, ◌∷◌, ◌++◌, [], IfOk, OnOk, OnErr, List, length, map};
 ghost use Rattle.std.specs.List.{sum};
 ghost use Rattle.shape_base.specs.declared.entry.Entry.{Entry};
+ghost use Rattle.shape_base.specs.OffsetText.{IsOffset};
 ghost use Rattle.shape_json.specs.ShapeHistory.{bytes_of};
 ghost use Rattle.chunked_log.specs.Chunked.{Writes};
 
@@ -38,6 +39,24 @@ impl Model for Written {
     ghost invariant = { IsWritten };
 }
 
+/// A number of 64 bits is one.
+fn number_fits(number: u64)
+    ensures { number < 2 ^ 64 }
+{}
+
+/// The numbers of an offset have 64 bits.
+fn offset_fits(offset: &Offset)
+    ensures { IsOffset offset.now }
+{
+    match offset {
+        Offset::Start => {}
+        Offset::At { lsn, pos } => {
+            number_fits(*lsn);
+            number_fits(*pos);
+        }
+    }
+}
+
 impl Written {
     /// No text.
     pub fn new(alloc: Global) -> Written
@@ -61,6 +80,7 @@ impl Written {
         self.buffer.reserve(size as usize)?;
         self.lines.reserve(1)?;
         put_entry(&mut self.buffer, entry);
+        offset_fits(&entry.offset);
         let offset = entry.offset;
         self.lines.push(Line { offset, size }).unwrap();
         Ok(())

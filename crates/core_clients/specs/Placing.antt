@@ -1,5 +1,5 @@
 -- What a client's next target asks for.
-use Rattle.std.specs.Prelude.{Option, is_some, unwrap_or}
+use Rattle.std.specs.Prelude.{is_some, unwrap_or}
 use Rattle.shape_base.specs.declared.ask.Ask.{Ask}
 use Rattle.fold_client.specs.Client.{Held}
 use Rattle.fold_client.specs.Following.{named_by}

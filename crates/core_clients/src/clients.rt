@@ -16,11 +16,11 @@ use fold_client::Query;
 use shape_base::{Ask, OutOfMemory, Reply, Text};
 use std::alloc::Global;
 
-/// How many bytes a target has at most in a head of 16,384 bytes: `GET ` and ` HTTP/1.1` with two line ends take 17.
-const LONGEST_TARGET: usize = 16_367;
+/// How many bytes a target has at most in a client's head of 16,384 bytes: `GET `, ` HTTP/1.1`, `host: shapes` and `connection: close`, with four line ends, take 50.
+const LONGEST_TARGET: usize = 16_334;
 
-/// Whether the head of a GET of this target is too long to be read (RFC 9112, section 3): `GET`, the target and `HTTP/1.1` between spaces, and two line
-/// ends have more than 16,384 bytes.
+/// Whether the head of a client's GET of this target is too long to be read (RFC 9112, section 3): its request line, `host: shapes`, `connection: close` and an empty line have more
+/// than 16,384 bytes.
 pub fn is_long(target: &Text) -> bool
     ensures { result ≡ steps.is_long target.now }
 {

@@ -8,9 +8,10 @@ ghost use Rattle.core_clients.specs.QueryForm.{IsQueryOf, IsQueryForm};
 ghost use Rattle.core_clients.specs.Reading.{AreRead};
 ghost use Rattle.core_clients.specs.declared.query.QueryError.TheVariants as errors;
 
-use super::form::{has_bad_percent, text_of};
+use super::form::text_of;
 use fold_client::Query;
 use form_urlencoded::raw_pairs;
+use http_edge::has_bad_percent;
 use shape_base::{OutOfMemory, Text};
 use std::alloc::Global;
 

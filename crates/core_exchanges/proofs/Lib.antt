@@ -1,3 +1,4 @@
 pub mod Standings
 pub mod Changes
 pub mod Lateness
+pub mod Lemmas

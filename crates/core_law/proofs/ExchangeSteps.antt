@@ -12,7 +12,7 @@ use Rattle.shape_base.specs.declared.cause.Cause.TheVariants.{Deleted, SnapshotF
 use Rattle.shape_base.specs.declared.definition.TableDef.{TableDef}
 use Rattle.shape_base.specs.declared.handle.Handle.{Handle}
 use Rattle.shape_base.specs.Snapshot.{Snapshot}
-use Rattle.shape_base.specs.RegistryHistory.{live_under, is_live, is_starting, last_lsn}
+use Rattle.shape_base.specs.RegistryHistory.{live_under, is_live, is_starting}
 use Rattle.shape_json.specs.ShapeHistory.{Reader}
 use Rattle.http_edge.specs.declared.error_code.ErrorCode.{ErrorCode}
 use Rattle.http_edge.specs.declared.error_code.ErrorCode.TheVariants as codes
@@ -23,7 +23,7 @@ use Rattle.core_events.specs.declared.out.Unfit.TheVariants as unfit
 use Rattle.fold_client.specs.Client.{take_reply}
 use Rattle.fold_client.specs.Following.{Heard}
 use Rattle.core_law.specs.Situation.{Options, Shape, Server, shape_at, Reads, Waits, Owns, HasNone, Exchange, Customer, Situation, known_of, held_of, next_target, next_asked, reader_for}
-use Rattle.core_law.specs.Steps.{change_at, heard_at, refused_with, settled_one, settled, with_exchange, refused_at, with_role, registered_for, opened, asked_first, asked_named, asked_for, exchange_at, request, Fault, code_of, owned_by, refusal_of_snapshot, changed_in, snapshot_ends, snapped, dropped, redefined, after_commit}
+use Rattle.core_law.specs.Steps.{change_at, heard_at, refused_with, settled_one, settled, with_exchange, refused_at, with_role, registered_for, opened, asked_first, asked_named, asked_for, exchange_at, request, Fault, code_of, owned_by, refusal_of_snapshot, changed_in, snapshot_ends, snapped, dropped, redefined, after_commits}
 use Rattle.core_law.specs.Clients.{Out, Cut, Turn, Goes, Stops, is_unfit, finished, never, has_room, waits_at, is_long, requested, sent, send_by, take_heard, is_next, take_exchange, take_by, joined, then_goes, goes_on, watch_heard, watch_exchange, watch_open, watched_by, watch}
 use Rattle.core_law.specs.Run as run
 use Rattle.core_law.specs.Run.{RequestCame, HeadCut, SnapshotCame, SnapshotEnded, Committed, Remove, Moment, Joined, SendNext, Receive, Watch, is_late_at, rounds, turn_of, next_of, after}
@@ -228,7 +228,7 @@ module _ (o : Options) (R : List Exchange → ℕ → List Exchange → ℕ → 
   each s HeadCut = cuts s (has_room s)
   each s (SnapshotCame e x) = snaps s e x (owned_by (slice_get s.exchanges e))
   each s (SnapshotEnded e fault) = fails s e fault (owned_by (slice_get s.exchanges e))
-  each s (Committed tx) = if_finishes s (record s { server = after_commit o s.server tx }) never (Goes [] s) (nat_lt (last_lsn s.server.registry) tx.lsn) (same s) (same s)
+  each s (Committed txs) = finishes s (record s { server = after_commits o s.server txs }) never (same s)
   each s (Remove n) = if_finishes s (record s { server = dropped s.server n Deleted }) never (Goes [] s) (is_live s.server.registry n) (same s) (same s)
   each s (Moment now) = moments s now (nat_lt now s.clock) refl
   each s (Joined query asked) = same s

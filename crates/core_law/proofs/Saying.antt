@@ -1,10 +1,13 @@
 -- The body of each reply that an exchange gets is read back as what was written.
-use Rattle.std.proofs.Common.{◌≡◌, ℕ, List, [], ◌∷◌, ◌++◌, refl, sym, subst, Option, None, Some}
+use Rattle.std.proofs.Common.{◌≡◌, ℕ, true, not, List, [], ◌∷◌, ◌++◌, refl, sym, subst, Option, None, Some}
+use Rattle.std.proofs.lemmas.Bool.{and_parts, and_from}
 use Rattle.shape_base.specs.declared.entry.Entry.{Entry}
 use Rattle.shape_base.specs.declared.offset.Offset.{Offset}
+use Rattle.shape_base.specs.declared.registry_event.RegistryEvent.{RegistryEvent}
 use Rattle.shape_base.specs.Offsets.{upto, past}
 use Rattle.shape_base.specs.Shape.{IsTest}
 use Rattle.shape_base.specs.Snapshot.{Snapshot}
+use Rattle.shape_base.specs.RegistryHistory.{was_registered, was_removed, was_registered_under, is_live, is_live_under}
 use Rattle.shape_base.proofs.Lemmas.{upto_past}
 use Rattle.shape_json.specs.Page.{Part, IsPage}
 use Rattle.shape_json.specs.Plain.{ArePlain}
@@ -16,7 +19,7 @@ use Rattle.core_law.specs.Reached.{HaveShortLogs, RepliesSay}
 use Rattle.core_law.proofs.Server.{Sound}
 use Rattle.core_law.proofs.Shapes.{shape_test}
 use Rattle.core_law.proofs.Replies.{AreRead, PagesAreRead, says_now}
-use Rattle.core_law.proofs.Reaching.{reached_sound}
+use Rattle.core_law.proofs.Reaching.{reached_sound, was_under}
 
 -- ---- logs
 
@@ -45,10 +48,14 @@ page_of_read log from page plain offsets is = (
   offsets_front page.entries is.rest (subst HaveOffsets is.cut (offsets_back (upto from log) (past from log) (subst HaveOffsets (sym (upto_past from log)) offsets))),
 )
 
+-- a number that is live under an identity is live
+is_live_there : (es : List RegistryEvent) (identity : List ℕ) (n : ℕ) → is_live_under es identity n ≡ true → is_live es n ≡ true
+is_live_there es identity n h = let p = and_parts (was_registered_under es identity n) (not (was_removed es n)) h in and_from (was_registered es n) (not (was_removed es n)) (was_under es identity n p.0) p.1
+
 short_pages : (o : Options) (v : Server) → Sound o v → HaveShortLogs v → PagesAreRead o v
 short_pages o v sound short late ask handle from page e =
     let p = pages_are_asked (answers_from o v late) ask handle from page e in
-    page_of_read (log_of_shape (shape_at v.shapes handle.number)) from page (plain_log o v handle.number (shape_at v.shapes handle.number) sound refl) (short handle.number)
+    page_of_read (log_of_shape (shape_at v.shapes handle.number)) from page (plain_log o v handle.number (shape_at v.shapes handle.number) sound refl) (short handle.number (is_live_there v.registry ask.identity handle.number p.under))
     (subst (λ (x : Part). IsPage (log_of_shape (shape_at v.shapes handle.number)) from x) (sym p.is) (page_is_front o.limits.chunk (log_of_shape (shape_at v.shapes handle.number)) from))
 
 pub replies_say : RepliesSay

@@ -25,7 +25,7 @@ use Rattle.shape_registry.proofs.Legal.{facts_of}
 use Rattle.http_edge.specs.declared.error_code.ErrorCode.{ErrorCode}
 use Rattle.http_edge.specs.declared.error_code.ErrorCode.TheVariants as codes
 use Rattle.core_law.specs.Situation.{Options, Shape, Server, shape_at, reader_under}
-use Rattle.core_law.specs.Steps.{with_event, with_registry, with_shape_event, redefined, with_shape, took_one, took_from, bytes_kept, all_bytes, with_commit, definition_by, removed_for, swept_from, after_commit, id_before, stale_by, untrue_by, or_else, refusal_of_snapshot, started_by, started}
+use Rattle.core_law.specs.Steps.{with_event, with_registry, with_shape_event, redefined, with_shape, took_one, took_from, bytes_kept, all_bytes, with_commit, definition_by, removed_for, swept_from, after_commit, unless_repeat, after_commits, id_before, stale_by, untrue_by, or_else, refusal_of_snapshot, started_by, started}
 use Rattle.core_law.proofs.Lists.{place_stays, one_more, last_place, place_before, some_same}
 use Rattle.core_law.proofs.Server.{Alike, IsShape, FitsShape, Started, Named, Sound, GoesOn, Extends, Better, alike_same, better_same, better_trans, snapshot_comes, taken-append, alike_event, started_on, named_on, either_false, first_true, shape_stays, removes, redefines_some, at_changed_here, event_better}
 
@@ -242,6 +242,14 @@ swept o tx n (x ∷ xs) v = let cause = drop_of x.reader o.limits x.events in
 
 pub commit_better : (o : Options) (v : Server) (tx : Tx) → nat_lt (last_lsn v.registry) tx.lsn ≡ true → Better o v (after_commit o v tx)
 commit_better o v tx rises = better_trans o v (with_commit o v tx) _ (commits o v tx rises) (swept o tx 1 (with_commit o v tx).shapes (with_commit o v tx))
+
+repeat_or : (o : Options) (v : Server) (tx : Tx) (b : Bool) → nat_lt (last_lsn v.registry) tx.lsn ≡ b → Better o v (if b then after_commit o v tx else v)
+repeat_or o v tx true rises = commit_better o v tx rises
+repeat_or o v tx false rises = better_same o v
+
+pub commits_better : (o : Options) (v : Server) (txs : List Tx) → Better o v (after_commits o v txs)
+commits_better o v [] = better_same o v
+commits_better o v (tx ∷ txs) = better_trans o v (unless_repeat o v tx) _ (repeat_or o v tx (nat_lt (last_lsn v.registry) tx.lsn) refl) (commits_better o (unless_repeat o v tx) txs)
 
 -- ---- snapshots
 

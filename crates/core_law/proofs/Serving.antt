@@ -23,7 +23,7 @@ use Rattle.core_events.specs.declared.out.Unfit.TheVariants as unfit
 use Rattle.fold_client.specs.Client.{take_reply}
 use Rattle.fold_client.specs.Following.{Heard}
 use Rattle.core_law.specs.Situation.{Options, Shape, Server, shape_at, HasNone, Exchange, Customer, Situation, at_start, known_of, held_of, next_target, next_asked, reader_for}
-use Rattle.core_law.specs.Steps.{with_shape, with_exchange, with_role, registered_for, opened, asked_first, asked_named, asked_for, exchange_at, request, Fault, code_of, owned_by, refusal_of_snapshot, changed_in, snapshot_ends, started, snapped, dropped, redefined, after_commit}
+use Rattle.core_law.specs.Steps.{with_shape, with_exchange, with_role, registered_for, opened, asked_first, asked_named, asked_for, exchange_at, request, Fault, code_of, owned_by, refusal_of_snapshot, changed_in, snapshot_ends, started, snapped, dropped, redefined, after_commit, unless_repeat, after_commits}
 use Rattle.core_law.specs.Clients.{Out, Cut, Turn, Goes, Stops, is_unfit, finished, never, has_room, is_long, sent, send_by, take_heard, is_next, take_exchange, take_by, joined, then_goes, goes_on, watch_heard, watch_exchange, watch_open, watched_by, watch}
 use Rattle.core_law.specs.Run as run
 use Rattle.core_law.specs.Run.{RequestCame, HeadCut, SnapshotCame, SnapshotEnded, Committed, Remove, Moment, Joined, SendNext, Receive, Watch, is_late_at, rounds, turn_of, next_of, after}
@@ -117,6 +117,16 @@ module _ (o : Options) (P : Server → Type 0) (kept : Kept o P) where
   fails s e fault None = λ p. p
   fails s e fault (Some n) = if_finishes s (snapshot_ends s e n (code_of fault) None) never (is_unfit unfit.NotASnapshot) (is_starting s.server.registry n) (λ is. ends s e n (code_of fault) None is) (λ p. p)
 
+  -- ---- commits
+
+  repeat_or : (v : Server) (tx : Tx) (b : Bool) → nat_lt (last_lsn v.registry) tx.lsn ≡ b → P v → P (if b then after_commit o v tx else v)
+  repeat_or v tx true rises = kept.commits v tx rises
+  repeat_or v tx false rises = λ p. p
+
+  all_commits : (v : Server) (txs : List Tx) → P v → P (after_commits o v txs)
+  all_commits v [] p = p
+  all_commits v (tx ∷ txs) p = all_commits (unless_repeat o v tx) txs (repeat_or v tx (nat_lt (last_lsn v.registry) tx.lsn) refl p)
+
   -- ---- clients
 
   requested_if : (s : Situation) (c : Customer) (b : Bool) → P s.server → P (if b then request o s false None (Refuses codes.HeadTooLong) false else request o s false (Some (next_target c)) (next_asked c) false).server
@@ -184,7 +194,7 @@ module _ (o : Options) (P : Server → Type 0) (kept : Kept o P) where
   each s HeadCut = cuts s (has_room s)
   each s (SnapshotCame e x) = snaps s e x (owned_by (slice_get s.exchanges e))
   each s (SnapshotEnded e fault) = fails s e fault (owned_by (slice_get s.exchanges e))
-  each s (Committed tx) = if_finishes s (record s { server = after_commit o s.server tx }) never (Goes [] s) (nat_lt (last_lsn s.server.registry) tx.lsn) (λ is. kept.commits s.server tx is) (λ p. p)
+  each s (Committed txs) = all_commits s.server txs
   each s (Remove n) = if_finishes s (record s { server = dropped s.server n Deleted }) never (Goes [] s) (is_live s.server.registry n) (λ is. kept.drops s.server n Deleted is) (λ p. p)
   each s (Moment now) = moments s now (nat_lt now s.clock)
   each s (Joined query asked) = λ p. p

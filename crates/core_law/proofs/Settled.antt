@@ -13,7 +13,7 @@ use Rattle.shape_base.specs.declared.handle.Handle.{Handle}
 use Rattle.shape_base.specs.Offsets.{is_before, past}
 use Rattle.shape_base.specs.Log.{end_of}
 use Rattle.shape_base.specs.Snapshot.{Snapshot}
-use Rattle.shape_base.specs.RegistryHistory.{was_removed, had_ready, ready_under, live_under, is_live, is_live_handle, is_starting, last_lsn}
+use Rattle.shape_base.specs.RegistryHistory.{was_removed, had_ready, ready_under, live_under, is_live, is_live_handle, is_starting}
 use Rattle.shape_json.specs.Page.{page_of}
 use Rattle.shape_json.specs.Answer as answers
 use Rattle.shape_json.specs.Answer.{Answer, Paged, OffsetAhead, NotYet, Starting, is_empty, answer_ready, answer_first, gone, answer_of}
@@ -25,7 +25,7 @@ use Rattle.core_events.specs.declared.out.Unfit.TheVariants as unfit
 use Rattle.fold_client.specs.Client.{take_reply}
 use Rattle.fold_client.specs.Following.{Heard}
 use Rattle.core_law.specs.Situation.{Options, Shape, Server, shape_at, Role, Reads, Waits, Owns, HasNone, Exchange, Customer, Situation, at_start, answers_from, held_of}
-use Rattle.core_law.specs.Steps.{Written, refused_with, written_as, written_to, reply_now, heard_at, settled_one, Fault, code_of, owned_by, refusal_of_snapshot, snapshot_ends, snapped, dropped, after_commit, request, with_exchange, with_role, exchange_at}
+use Rattle.core_law.specs.Steps.{Written, refused_with, written_as, written_to, reply_now, heard_at, settled_one, Fault, code_of, owned_by, refusal_of_snapshot, snapshot_ends, snapped, dropped, after_commits, request, with_exchange, with_role, exchange_at}
 use Rattle.core_law.specs.Clients.{Out, Turn, Goes, Stops, is_unfit, finished, never, has_room, requested, sent, send_by, take_heard, is_next, take_exchange, take_by, joined, then_goes, goes_on, watch_heard, watch_exchange, watch_open, watched_by, watch}
 use Rattle.core_law.specs.Run as run
 use Rattle.core_law.specs.Run.{RequestCame, HeadCut, SnapshotCame, SnapshotEnded, Committed, Remove, Moment, Joined, SendNext, Receive, Watch, come, cut, snap_shape, snap, fail, commit, is_late_at, join, rounds, turn_of, next_of, after}
@@ -195,7 +195,7 @@ each o s (RequestCame target asked close) = if_finishes o s (request o s true ta
 each o s HeadCut = cuts o s (has_room s)
 each o s (SnapshotCame e x) = snaps o s e x (owned_by (slice_get s.exchanges e))
 each o s (SnapshotEnded e fault) = fails o s e fault (owned_by (slice_get s.exchanges e))
-each o s (Committed tx) = if_finishes o s (record s { server = after_commit o s.server tx }) never (Goes [] s) (nat_lt (last_lsn s.server.registry) tx.lsn) (same o s)
+each o s (Committed txs) = finishes o s (record s { server = after_commits o s.server txs }) never
 each o s (Remove n) = if_finishes o s (record s { server = dropped s.server n Deleted }) never (Goes [] s) (is_live s.server.registry n) (same o s)
 each o s (Moment now) = moments o s now (nat_lt now s.clock)
 each o s (Joined query asked) = λ h. h

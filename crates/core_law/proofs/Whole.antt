@@ -6,7 +6,7 @@ use Rattle.std.specs.Prelude.{nat_lt}
 use Rattle.shape_base.specs.declared.change.Tx.{Tx}
 use Rattle.shape_base.specs.declared.cause.Cause.TheVariants.{Deleted}
 use Rattle.shape_base.specs.declared.history.History.{History}
-use Rattle.shape_base.specs.RegistryHistory.{is_live, last_lsn}
+use Rattle.shape_base.specs.RegistryHistory.{is_live}
 use Rattle.http_edge.specs.declared.error_code.ErrorCode.TheVariants as codes
 use Rattle.http_edge.specs.World.{World, IsGoodWorld}
 use Rattle.http_edge.specs.Lawful.{Asked, Refuses, IsLawful}
@@ -16,13 +16,13 @@ use Rattle.core_events.specs.declared.out.Unfit.TheVariants as unfit
 use Rattle.fold_client.specs.declared.client.Query.{Query}
 use Rattle.fold_client.specs.Following.{Heard}
 use Rattle.core_law.specs.Situation.{Options, Shape, Server, shape_at, HasNone, Exchange, Situation, at_start, world_of}
-use Rattle.core_law.specs.Steps.{after_commit, dropped, with_exchange, with_role, exchange_at, request, owned_by}
+use Rattle.core_law.specs.Steps.{after_commits, dropped, with_exchange, with_role, exchange_at, request, owned_by}
 use Rattle.core_law.specs.Clients.{Out, Cut, Goes, Stops, is_unfit, finished, never, has_room}
 use Rattle.core_law.specs.Run as run
-use Rattle.core_law.specs.Run.{RequestCame, HeadCut, SnapshotCame, SnapshotEnded, Committed, Remove, Moment, Joined, SendNext, Receive, Watch, is_late_at, join, rounds, turn_of, next_of, outs_of, after, told}
+use Rattle.core_law.specs.Run.{RequestCame, HeadCut, SnapshotCame, SnapshotEnded, Committed, Remove, Moment, Joined, SendNext, Receive, Watch, commit, is_late_at, join, rounds, turn_of, next_of, outs_of, after, told}
 use Rattle.core_law.specs.Laws.{IsStart, IsRead, IsFirst, IsRoutedEvent, IsTold, IsLawfulExchange, IsFairReply, IsFairExchange, IsRightOut, RepliesAreLawful, RepliesAreFair, Headline}
 use Rattle.core_law.proofs.Server.{Sound, Extends, Better, better_same, better_trans, drops}
-use Rattle.core_law.proofs.ServerSteps.{commit_better}
+use Rattle.core_law.proofs.ServerSteps.{commits_better}
 use Rattle.core_law.proofs.Fields.{nothing_fields}
 use Rattle.core_law.proofs.Targets.{ReadsBack, reads_of}
 use Rattle.core_law.proofs.Replies.{HasRole}
@@ -51,9 +51,8 @@ cut_if R o s true = record {
 }
 cut_if R o s false = stops_ok R o s errors.TooManyExchanges
 
-commit_if : (R : Type 0) (o : Options) (s : Situation) (tx : Tx) (b : Bool) → nat_lt (last_lsn s.server.registry) tx.lsn ≡ b → TurnOk R o s (if b then finished o never s (record s { server = after_commit o s.server tx }) else Goes [] s)
-commit_if R o s tx true rises = finished_ok R o s (record s { server = after_commit o s.server tx }) never (moved_server R o s (after_commit o s.server tx) (commit_better o s.server tx rises))
-commit_if R o s tx false rises = stays_ok R o s
+commit_ok : (R : Type 0) (o : Options) (s : Situation) (txs : List Tx) → TurnOk R o s (commit o s txs)
+commit_ok R o s txs = finished_ok R o s (record s { server = after_commits o s.server txs }) never (moved_server R o s (after_commits o s.server txs) (commits_better o s.server txs))
 
 remove_if : (R : Type 0) (o : Options) (s : Situation) (n : ℕ) (b : Bool) → TurnOk R o s (if b then finished o never s (record s { server = dropped s.server n Deleted }) else Goes [] s)
 remove_if R o s n true = finished_ok R o s (record s { server = dropped s.server n Deleted }) never (moved_server R o s (dropped s.server n Deleted) (drops o s.server n Deleted))
@@ -77,7 +76,7 @@ turn_ok o s (RequestCame target asked close) = come_if o s target asked close (h
 turn_ok o s HeadCut = cut_if (Unit {0}) o s (has_room s)
 turn_ok o s (SnapshotCame e x) = snap_ok (Unit {0}) o s e x (owned_by (slice_get s.exchanges e)) refl
 turn_ok o s (SnapshotEnded e fault) = fail_ok (Unit {0}) o s e fault (owned_by (slice_get s.exchanges e)) refl
-turn_ok o s (Committed tx) = commit_if (Unit {0}) o s tx (nat_lt (last_lsn s.server.registry) tx.lsn) refl
+turn_ok o s (Committed txs) = commit_ok (Unit {0}) o s txs
 turn_ok o s (Remove n) = remove_if (Unit {0}) o s n (is_live s.server.registry n)
 turn_ok o s (Moment now) = moment_if (Unit {0}) o s now (nat_lt now s.clock)
 turn_ok o s (Joined query asked) = joined_ok o s query asked

@@ -1,4 +1,4 @@
--- One run that meets every premise: an aged reply taken after a newer one, a truncation that drops number 1, a conflict, and number 2 of the same identity, whose snapshot comes after a commit that waits for it.
+-- One run that meets every premise: an aged reply taken after a newer one, a repeat and a truncation that come together and drop number 1, a conflict, and number 2 of the same identity, whose snapshot comes after a commit that waits for it.
 use Rattle.std.proofs.Common.{◌≡◌, inl, inr, lit≤, ℕ, zero, suc, ◌==◌, true, false, if◌then◌else◌, List, [], ◌∷◌, length, map, take, refl, sym, ◌∙◌, ap, subst, arith, lit<, Option, None, Some, IfSome, Ok, codes}
 use Rattle.std.specs.List.{slice_get, AllByRecursion, IsDistinct}
 use Rattle.std.proofs.lemmas.List.Sorted.{IsPermutation-refl}
@@ -107,8 +107,8 @@ snapshot_below xid = record { visibility = record { xmin = xid; xmax = xid; list
 -- a stranger asks from where the client stands only later
 abbrev script : List Event
 script = Joined query (AsksFor first_ask) ∷ SendNext 0 ∷ SnapshotCame 0 (snapshot_below 5) ∷ RequestCame (Some (target_text query held_later)) (AsksFor later_ask) false ∷ Moment 5000 ∷ Receive 0 0
-    ∷ Committed first ∷ SendNext 0 ∷ Moment 10000 ∷ Receive 0 2 ∷ Receive 0 1
-    ∷ Committed second ∷ SendNext 0 ∷ Receive 0 3 ∷ SendNext 0 ∷ Committed third ∷ SnapshotCame 4 (snapshot_below 7) ∷ []
+    ∷ Committed (first ∷ []) ∷ SendNext 0 ∷ Moment 10000 ∷ Receive 0 2 ∷ Receive 0 1
+    ∷ Committed (first ∷ second ∷ []) ∷ SendNext 0 ∷ Receive 0 3 ∷ SendNext 0 ∷ Committed (third ∷ []) ∷ SnapshotCame 4 (snapshot_below 7) ∷ []
 
 abbrev last : Situation
 last = after options at_start script

@@ -64,9 +64,9 @@ has_room s = nat_lt (length s.exchanges) exchange_limit
 abbrev pub waits_at : ℕ → Customer → Customer
 waits_at e c = record c { waiting = Some e }
 
--- the head of a request for a target (RFC 9112, section 3), and whether it is too long to be read
+-- the head of a client's request for a target (RFC 9112, section 3), and whether it is too long to be read
 abbrev pub head_text : List ℕ → List ℕ
-head_text target = codes "GET " ++ target ++ codes " HTTP/1.1\r\n\r\n"
+head_text target = codes "GET " ++ target ++ codes " HTTP/1.1\r\nhost: shapes\r\nconnection: close\r\n\r\n"
 
 abbrev pub is_long : List ℕ → Bool
 is_long target = nat_lt 16384 (length (head_text target))

@@ -4,7 +4,7 @@ use Rattle.std.specs.List.{list_all, AllByRecursion}
 use Rattle.shape_base.specs.declared.ask.Ask.{Ask}
 use Rattle.shape_base.specs.declared.reply.Reply.{Reply}
 use Rattle.shape_base.specs.Handle.{IsHandle}
-use Rattle.shape_base.specs.RegistryHistory.{was_registered}
+use Rattle.shape_base.specs.RegistryHistory.{was_registered, is_live}
 use Rattle.shape_json.specs.Reading.{HaveOffsets}
 use Rattle.http_edge.specs.Status.{is_status}
 use Rattle.http_edge.specs.ReplyText.{is_visible}
@@ -31,9 +31,9 @@ pub record HasText (r : Reply) : Type 0 where
 abbrev pub RepliesHaveTexts : Type 0
 RepliesHaveTexts = (o : Options) (s : Situation) (late : Bool) (asked : Asked) (role : Role) (w : Written) → IsStart o → IsReached o s → reply_now o s.server late asked role ≡ Some w → HasText w.reply
 
--- the offsets of all logs have 64 bits
+-- the offsets of the log of each live number have 64 bits
 abbrev pub HaveShortLogs : Server → Type 0
-HaveShortLogs v = (number : ℕ) → HaveOffsets (log_of_shape (shape_at v.shapes number))
+HaveShortLogs v = (number : ℕ) → is_live v.registry number ≡ true → HaveOffsets (log_of_shape (shape_at v.shapes number))
 
 -- The body of each reply that an exchange gets is read back as what was written.
 abbrev pub RepliesSay : Type 0

@@ -3,7 +3,7 @@ use Rattle.std.specs.Prelude.{ℕ, ◌+◌, Bool, true, false, ◌&&◌, nat_lt,
 use Rattle.shape_base.specs.declared.change.Tx.{Tx}
 use Rattle.shape_base.specs.declared.cause.Cause.TheVariants.{Deleted}
 use Rattle.shape_base.specs.Snapshot.{Snapshot}
-use Rattle.shape_base.specs.RegistryHistory.{is_live, is_starting, last_lsn}
+use Rattle.shape_base.specs.RegistryHistory.{is_live, is_starting}
 use Rattle.shape_json.specs.ShapeHistory.{snapshot_in}
 use Rattle.http_edge.specs.Lawful.{Asked, Refuses}
 use Rattle.http_edge.specs.declared.error_code.ErrorCode.TheVariants as codes
@@ -11,7 +11,7 @@ use Rattle.core_events.specs.declared.out.Unfit.TheVariants as unfit
 use Rattle.core_events.specs.declared.out.StepError.TheVariants as errors
 use Rattle.fold_client.specs.declared.client.Query.{Query}
 use Rattle.core_law.specs.Situation.{Options, Shape, shape_at, HasNone, Exchange, Situation}
-use Rattle.core_law.specs.Steps.{with_exchange, exchange_at, with_role, request, Fault, code_of, owned_by, refusal_of_snapshot, snapshot_ends, snapped, dropped, after_commit}
+use Rattle.core_law.specs.Steps.{with_exchange, exchange_at, with_role, request, Fault, code_of, owned_by, refusal_of_snapshot, snapshot_ends, snapped, dropped, after_commits}
 use Rattle.core_law.specs.Clients.{Out, Cut, Turn, Goes, Stops, is_unfit, finished, never, has_room, send_by, take_by, watch}
 
 -- What may come.
@@ -24,8 +24,8 @@ pub data Event : Type 0 where
   SnapshotCame : (exchange : ℕ) (snapshot : Snapshot) → Event
   -- or it ended in a fault
   SnapshotEnded : (exchange : ℕ) (fault : Fault) → Event
-  -- the stream shows a commit
-  Committed : (tx : Tx) → Event
+  -- the stream shows commits, as many as come together, or none
+  Committed : (txs : List Tx) → Event
   -- a number is to be dropped
   Remove : (number : ℕ) → Event
   -- the clock, in milliseconds
@@ -57,9 +57,9 @@ abbrev pub fail : Options → Situation → ℕ → Fault → Option ℕ → Tur
 fail o s e fault None = is_unfit unfit.NotASnapshot
 fail o s e fault (Some n) = if is_starting s.server.registry n then finished o never s (snapshot_ends s e n (code_of fault) None) else is_unfit unfit.NotASnapshot
 
--- A commit whose LSN is not above the last one's is a repeat, and passed over.
-abbrev pub commit : Options → Situation → Tx → Turn
-commit o s tx = if nat_lt (last_lsn s.server.registry) tx.lsn then finished o never s (record s { server = after_commit o s.server tx }) else Goes [] s
+-- Commits that come together are taken one after the other, and no exchange is answered in between.
+abbrev pub commit : Options → Situation → List Tx → Turn
+commit o s txs = finished o never s (record s { server = after_commits o s.server txs })
 
 abbrev pub remove : Options → Situation → ℕ → Turn
 remove o s n = if is_live s.server.registry n then finished o never s (record s { server = dropped s.server n Deleted }) else Goes [] s
@@ -84,7 +84,7 @@ turn_of o s (RequestCame target asked close) = come o s target asked close
 turn_of o s HeadCut = cut s
 turn_of o s (SnapshotCame e snapshot) = snap o s e snapshot (owned_by (slice_get s.exchanges e))
 turn_of o s (SnapshotEnded e fault) = fail o s e fault (owned_by (slice_get s.exchanges e))
-turn_of o s (Committed tx) = commit o s tx
+turn_of o s (Committed txs) = commit o s txs
 turn_of o s (Remove n) = remove o s n
 turn_of o s (Moment now) = moment o s now
 turn_of o s (Joined query asked) = Goes [] (join s query asked)

@@ -1,5 +1,5 @@
 -- What one event does to the server and to the exchanges.
-use Rattle.std.specs.Prelude.{ℕ, zero, suc, ◌+◌, Bool, if◌then◌else◌, List, [], ◌∷◌, ◌++◌, length, map, Option, None, Some, slice_get}
+use Rattle.std.specs.Prelude.{ℕ, zero, suc, ◌+◌, Bool, nat_lt, if◌then◌else◌, List, [], ◌∷◌, ◌++◌, length, map, Option, None, Some, slice_get}
 use Rattle.std.specs.Option.{option_map, option_or}
 use Rattle.std.specs.List.{sum}
 use Rattle.shape_base.specs.declared.change.Tx.{Tx}
@@ -16,7 +16,7 @@ use Rattle.shape_base.specs.Tables.{Own, same_def, changes_of}
 use Rattle.shape_base.specs.Visibility.{Visibility, is_visible}
 use Rattle.shape_base.specs.Snapshot.{Snapshot, definition_in}
 use Rattle.shape_base.specs.Shape.{Knows, stops, have_truths}
-use Rattle.shape_base.specs.RegistryHistory.{was_removed, is_live, live_under, last_id}
+use Rattle.shape_base.specs.RegistryHistory.{was_removed, is_live, live_under, last_id, last_lsn}
 use Rattle.shape_json.specs.declared.control.Control.TheVariants.{MustRefetch}
 use Rattle.shape_json.specs.ShapeHistory.{Reader, ShapeEvent, Snapped, Dropped, ShapeState, bytes_of, drop_of, state_after}
 use Rattle.shape_json.specs.ShapeHistory as shapes
@@ -186,6 +186,15 @@ swept_from o tx n (x ∷ xs) v = swept_from o tx (n + 1) xs (removed_for v tx n 
 -- The server after a commit.
 abbrev pub after_commit : Options → Server → Tx → Server
 after_commit o v tx = let next = with_commit o v tx in swept_from o tx 1 next.shapes next
+
+-- A commit whose LSN is not above the last one's is a repeat, and passed over.
+abbrev pub unless_repeat : Options → Server → Tx → Server
+unless_repeat o v tx = if nat_lt (last_lsn v.registry) tx.lsn then after_commit o v tx else v
+
+-- The server after commits, each in turn.
+abbrev pub after_commits : Options → Server → List Tx → Server
+after_commits o v [] = v
+after_commits o v (tx ∷ txs) = after_commits o (unless_repeat o v tx) txs
 
 -- ---- requests
 

@@ -47,7 +47,7 @@ pub fn replies_have_texts()
     ensures { RepliesHaveTexts }
 {}
 
-/// The body of each reply that an exchange gets is read back as what was written, where the offsets of all logs have 64 bits.
+/// The body of each reply that an exchange gets is read back as what was written, where the offsets of the log of each live number have 64 bits.
 pub fn replies_say()
     ensures { RepliesSay }
 {}

@@ -19,6 +19,7 @@ use Rattle.core_exchanges.specs.Standing.{ArePlaces, is_open, awaits, is_there, 
 use Rattle.core_exchanges.specs.Giving.{is_late}
 use Rattle.core_machine.specs.declared.answering.Refusal.{Refusal}
 use Rattle.core_machine.specs.Replying.{refused_in, answered_in, refusal_of}
+use Rattle.core_machine.specs.Awaiting.{is_one_of, awaits_any}
 use Rattle.core_machine.proofs.Finishing.{AreInside}
 use Rattle.core_machine.proofs.Places.{changed_here, changed_apart}
 use Rattle.core_machine.proofs.Agreeing.{Agrees, agree}
@@ -58,16 +59,32 @@ places_inside test xs places are = all_inside test xs places (all_pass test xs p
 pub tested : (test : Exchange → Bool) (xs : List Exchange) (places : List ℕ) (b : Bool) → ArePlaces test xs places → (q : ℕ) (x : Exchange) → slice_get xs q ≡ Some x → is_among q places ≡ b → test x ≡ b
 tested test xs places b are q x at e = sym (ap (is_there test) at) ∙ sym (are.exact q) ∙ e
 
+or_nothing : (a : Bool) → (a || false) ≡ a
+or_nothing true = refl
+or_nothing false = refl
+
+both : (b : Bool) → b ≡ true → b ≡ false → ⊥
+both true e h = cc
+both false e h = cc
+
+pub equal_swap : (n m : ℕ) → (n == m) ≡ (m == n)
+equal_swap n m = pick (n == m) (m == n) refl refl
+  where
+    pick : (a b : Bool) → (n == m) ≡ a → (m == n) ≡ b → (n == m) ≡ (m == n)
+    pick true b e f = e ∙ sym ((Decides-eqb m n).1 (sym ((Decides-eqb n m).0 e)))
+    pick false true e f = absurd (both (n == m) ((Decides-eqb n m).1 (sym ((Decides-eqb m n).0 f))) e)
+    pick false false e f = e ∙ sym f
+
 and_first : (a b : Bool) → a ≡ true → (a && b) ≡ false → b ≡ false
 and_first true b e h = h
 and_first false b e h = cc
 
--- ---- something happens to a number
+-- ---- something happens to some numbers
 
-module _ (wait : OthersWait) (o : Options) (s t : Situation) (e : Event) (n i : ℕ) (code : Option ErrorCode) (places : List ℕ) (start : IsStart o) (reached : IsReached o s) (tables : AreOfTables o s.exchanges) (server : (next_of s (turn_of o s e)).server ≡ t.server)
-    (exchanges : t.exchanges ≡ change_at (refused_as t.server code) s.exchanges i) (are : ArePlaces (awaits n) s.exchanges places)
-    (owner : is_some code ≡ true → (x : Exchange) → slice_get s.exchanges i ≡ Some x → awaited x.asked x.role ≡ Some n)
-    (quiet : (m : ℕ) → (n ≡ m → ⊥) → IsAsBefore s.server t.server m) where
+module _ (wait : OthersWait) (o : Options) (s t : Situation) (e : Event) (ns : List ℕ) (i : ℕ) (code : Option ErrorCode) (places : List ℕ) (start : IsStart o) (reached : IsReached o s) (tables : AreOfTables o s.exchanges) (server : (next_of s (turn_of o s e)).server ≡ t.server)
+    (exchanges : t.exchanges ≡ change_at (refused_as t.server code) s.exchanges i) (are : ArePlaces (awaits_any ns) s.exchanges places)
+    (owner : is_some code ≡ true → (x : Exchange) → slice_get s.exchanges i ≡ Some x → is_one_of ns (awaited x.asked x.role) ≡ true)
+    (quiet : (m : ℕ) → is_among m ns ≡ false → IsAsBefore s.server t.server m) where
   abbrev r : Option Refusal
   r = refusal_of i code
 
@@ -81,17 +98,13 @@ module _ (wait : OthersWait) (o : Options) (s t : Situation) (e : Event) (n i : 
       mapped None = refl
       mapped (Some x) = ap (λ (y : Exchange). Some y) (sym (refused_here t.server code i x))
 
-  awaits_not : (q : ℕ) (x : Exchange) → slice_get s.exchanges q ≡ Some x → is_among q places ≡ false → x.given ≡ None → is_number n (awaited x.asked x.role) ≡ false
-  awaits_not q x at out none = and_first (is_open x) (is_number n (awaited x.asked x.role)) (ap is_none none) (tested (awaits n) s.exchanges places false are q x at out)
-
-  not_that : (m : ℕ) (a : Option ℕ) → is_number n a ≡ false → a ≡ Some m → n ≡ m → ⊥
-  not_that m None n_is is same = cc
-  not_that m (Some k) n_is is same = let e : k ≡ m = cc in let yes : (k == n) ≡ true = (Decides-eqb k n).1 (e ∙ sym same) in cc
+  awaits_not : (q : ℕ) (x : Exchange) → slice_get s.exchanges q ≡ Some x → is_among q places ≡ false → x.given ≡ None → is_one_of ns (awaited x.asked x.role) ≡ false
+  awaits_not q x at out none = and_first (is_open x) (is_one_of ns (awaited x.asked x.role)) (ap is_none none) (tested (awaits_any ns) s.exchanges places false are q x at out)
 
   unrefused : (q : ℕ) (x : Exchange) (c : Option ErrorCode) → code ≡ c → slice_get s.exchanges q ≡ Some x → is_among q places ≡ false → x.given ≡ None → refused_in t.server (refusal_of i c) q x ≡ x
   unrefused q x None is at out none = refl
   unrefused q x (Some k) is at out none = same_or_not i q
-      (λ same. absurd (not_that n (awaited x.asked x.role) (awaits_not q x at out none) (owner (ap is_some is) x (ap (slice_get s.exchanges) same ∙ at)) refl))
+      (λ same. absurd (both (is_one_of ns (awaited x.asked x.role)) (owner (ap is_some is) x (ap (slice_get s.exchanges) same ∙ at)) (awaits_not q x at out none)))
       (λ other. refused_apart t.server (Some k) i q x other)
 
   agrees : Agrees o t.server never false r places s.exchanges
@@ -100,17 +113,41 @@ module _ (wait : OthersWait) (o : Options) (s t : Situation) (e : Event) (n i : 
     refused = λ q y at out none. unrefused q y code refl at out none;
     none = λ q y at out none.
         subst (λ (v : Server). reply_now o v false y.asked y.role ≡ None) server
-        (wait o s e q y start reached at none (all_at (λ (z : Exchange). AsksOfTable o z.asked) s.exchanges q y at tables) (λ m is. subst (λ (v : Server). IsAsBefore s.server v m) (sym server) (quiet m (not_that m (awaited y.asked y.role) (awaits_not q y at out none) is))));
+        (wait o s e q y start reached at none (all_at (λ (z : Exchange). AsksOfTable o z.asked) s.exchanges q y at tables) (λ m is. subst (λ (v : Server). IsAsBefore s.server v m) (sym server) (quiet m (ap (is_one_of ns) (sym is) ∙ awaits_not q y at out none))));
   }
 
-  pub awaiting_settles : Settling o s t never (answered_in o t.server false r) places s.exchanges
-  awaiting_settles = record {
+  pub awaiting_any_settles : Settling o s t never (answered_in o t.server false r) places s.exchanges
+  awaiting_any_settles = record {
     sorted = are.rising;
     among = all_among places;
-    inside = places_inside (awaits n) s.exchanges places are;
+    inside = places_inside (awaits_any ns) s.exchanges places are;
     agree = agree o t.server never false r places s.exchanges agrees t.exchanges base;
     before = refl;
   }
+
+-- ---- something happens to a number
+
+one_number : (n : ℕ) (a : Option ℕ) → is_one_of (n ∷ []) a ≡ is_number n a
+one_number n None = refl
+one_number n (Some m) = or_nothing (n == m) ∙ equal_swap n m
+
+one_test : (n : ℕ) (x : Exchange) → awaits_any (n ∷ []) x ≡ awaits n x
+one_test n x = ap (λ b. is_open x && b) (one_number n (awaited x.asked x.role))
+
+-- the places of those that await one of a single number
+pub one_place : (n : ℕ) (xs : List Exchange) (places : List ℕ) → ArePlaces (awaits n) xs places → ArePlaces (awaits_any (n ∷ [])) xs places
+one_place n xs places are = record { rising = are.rising; exact = λ p. are.exact p ∙ there (slice_get xs p) }
+  where
+    there : (a : Option Exchange) → is_there (awaits n) a ≡ is_there (awaits_any (n ∷ [])) a
+    there None = refl
+    there (Some x) = sym (one_test n x)
+
+pub awaiting_settles : (wait : OthersWait) (o : Options) (s t : Situation) (e : Event) (n i : ℕ) (code : Option ErrorCode) (places : List ℕ) → IsStart o → IsReached o s → AreOfTables o s.exchanges → (next_of s (turn_of o s e)).server ≡ t.server
+    → t.exchanges ≡ change_at (refused_as t.server code) s.exchanges i → ArePlaces (awaits n) s.exchanges places → (is_some code ≡ true → (x : Exchange) → slice_get s.exchanges i ≡ Some x → awaited x.asked x.role ≡ Some n)
+    → ((m : ℕ) → (n ≡ m → ⊥) → IsAsBefore s.server t.server m) → Settling o s t never (answered_in o t.server false (refusal_of i code)) places s.exchanges
+awaiting_settles wait o s t e n i code places start reached tables server exchanges are owner quiet = awaiting_any_settles wait o s t e (n ∷ []) i code places start reached tables server exchanges (one_place n s.exchanges places are)
+    (λ some x at. ap (is_one_of (n ∷ [])) (owner some x at) ∙ or_nothing (n == n) ∙ (Decides-eqb n n).1 refl)
+    (λ m out. quiet m (λ same. both (n == m) ((Decides-eqb n m).1 same) (sym (or_nothing (n == m)) ∙ out)))
 
 -- ---- the clock
 

@@ -27,7 +27,7 @@ use Rattle.core_machine.specs.declared.machine.Machine.{Machine}
 use Rattle.core_machine.specs.Replying.{answered_in, refusal_of}
 use Rattle.core_machine.specs.Answering.{AreGivenNumbers, Halfway, Answered, text_at}
 use Rattle.core_machine.specs.Opening.{Opening, opening_of, IsRequested, SparesClients}
-use Rattle.core_machine.specs.Standing.{AreOfTables, Stands}
+use Rattle.core_machine.specs.Standing.{lasts_of, AreOfTables, Stands}
 use Rattle.core_machine.specs.Turns.{GoesOn}
 use Rattle.core_machine.proofs.Requests.{refused_as, request_is, comes, server_is, opening_settles}
 use Rattle.core_machine.proofs.Turning.{settles, said_more}
@@ -100,10 +100,10 @@ module _ (o : Options) (s : Situation) (start : IsStart o) (reached : IsReached 
     exchanges_same : t.exchanges ≡ s.exchanges ++ refused_as t.server op.refusal new_exchange ∷ []
     exchanges_same = ap (λ (u : Situation). u.exchanges) (request_is o s outside target asked close) ∙ ap (λ (v : Server). s.exchanges ++ refused_as v op.refusal new_exchange ∷ []) (sym server_same)
 
-    pub requested : (old m : Machine) (before now : List Out) (i : ℕ) → i ≡ length s.exchanges → server.Stands o op.server m.server
+    pub requested : (old m : Machine) (before now : List Out) (i : ℕ) → i ≡ length s.exchanges → server.Stands o op.server m.server → m.lasts.items ≡ lasts_of op.server
         → Answered o came (Rattle.core_law.specs.Steps.change_at (answered_in o came.server false (refusal_of i op.refusal) i) (s.exchanges ++ new_exchange ∷ []) i) m.server m.exchanges before now (text_at (answered_in o came.server false (refusal_of i op.refusal)) i (slice_get (s.exchanges ++ new_exchange ∷ []) i))
         → IsRequested o s t old m before now i
-    requested old m before now i is stands answered =
+    requested old m before now i is stands lasts answered =
         let same : came.server ≡ t.server = came_server ∙ sym server_same in
         let a = subst (λ (v : Server). Answered o came (Rattle.core_law.specs.Steps.change_at (answered_in o v false (refusal_of i op.refusal) i) (s.exchanges ++ new_exchange ∷ []) i) m.server m.exchanges before now (text_at (answered_in o v false (refusal_of i op.refusal)) i (slice_get (s.exchanges ++ new_exchange ∷ []) i))) same answered in
         let b = subst (λ (k : ℕ). Answered o came (Rattle.core_law.specs.Steps.change_at (answered_in o t.server false (refusal_of k op.refusal) k) (s.exchanges ++ new_exchange ∷ []) k) m.server m.exchanges before now (text_at (answered_in o t.server false (refusal_of k op.refusal)) k (slice_get (s.exchanges ++ new_exchange ∷ []) k))) is a in
@@ -114,6 +114,7 @@ module _ (o : Options) (s : Situation) (start : IsStart o) (reached : IsReached 
           server = subst (λ (v : Server). server.Stands o v m.server) (sym server_same) stands;
           exchanges = subst (λ (ys : List Exchange). exchanges.Stands m.exchanges ys) (sym settled_.same) b.halfway.exchanges;
           outs = b.outs ∙ ap (λ ts. before ++ ts) (sym (append-nil (text_at (answered_in o t.server false (refusal_of (length s.exchanges) op.refusal)) (length s.exchanges) (slice_get (s.exchanges ++ new_exchange ∷ []) (length s.exchanges)))) ∙ settled_.texts);
+          lasts = lasts ∙ ap lasts_of (sym server_same);
         }
 
 -- there is room in the exchanges exactly where there is in the situation
@@ -125,9 +126,9 @@ space_room t s h = ap (λ n. nat_lt n exchange_limit) (same_length t.items.items
 abbrev pub cut_exchange : Situation → Exchange
 cut_exchange s = with_role HasNone (exchange_at true None (Refuses codes.BadHead) false s.clock)
 
-pub cuts : (o : Options) (s : Situation) (m m' : Machine) (i : ℕ) (now : List Out) → Stands o s m → has_room s ≡ true → i ≡ length s.exchanges → exchanges.Stands m'.exchanges (s.exchanges ++ cut_exchange s ∷ []) → now ≡ outs.Cut i ∷ [] → m'.server ≡ m.server → SparesClients m m'
+pub cuts : (o : Options) (s : Situation) (m m' : Machine) (i : ℕ) (now : List Out) → Stands o s m → has_room s ≡ true → i ≡ length s.exchanges → exchanges.Stands m'.exchanges (s.exchanges ++ cut_exchange s ∷ []) → now ≡ outs.Cut i ∷ [] → m'.server ≡ m.server → SparesClients m m' → m'.lasts ≡ m.lasts
     → GoesOn o (turn_of o s HeadCut) now m'
-cuts o s m m' i now h room is there texts server_ spares =
+cuts o s m m' i now h room is there texts server_ spares lasts =
     let turn : turn_of o s HeadCut ≡ Goes (law.Cut (length s.exchanges) ∷ []) (with_exchange s (cut_exchange s)) = ap (λ b. if b then Goes (law.Cut (length s.exchanges) ∷ []) (with_exchange s (cut_exchange s)) else Stops errors.TooManyExchanges) room in
     subst (λ (t : Turn). GoesOn o t now m') (sym turn) (
       subst (λ (ts : List Out). Rattle.core_machine.specs.Turns.AreOuts (with_exchange s (cut_exchange s)).exchanges (law.Cut (length s.exchanges) ∷ []) ts) (sym texts) (ap outs.Cut is, tt),
@@ -141,7 +142,7 @@ cuts o s m m' i now h room is there texts server_ spares =
         served = subst (λ a. Rattle.core_machine.specs.Firsts.AreServed o.tables a.items) (sym spares.asks) h.served;
         clock = spares.clock ∙ h.clock;
         hold = spares.hold ∙ h.hold;
-        short = h.short;
+        lasts = ap (λ l. l.items) lasts ∙ h.lasts;
         said = said_more s.exchanges (cut_exchange s) h.said tt;
         of_tables = all_more o s.exchanges (cut_exchange s) h.of_tables tt;
         defined = h.defined;

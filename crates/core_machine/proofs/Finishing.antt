@@ -23,7 +23,7 @@ use Rattle.core_machine.proofs.Places.{same_lists, settled_get, texts_flat, text
 
 -- ---- what is put out, as the definitions have it
 
-outs_both : (ys : List Exchange) (as_ bs : List law.Out) (cs ds : List Out) → AreOuts ys as_ cs → AreOuts ys bs ds → AreOuts ys (as_ ++ bs) (cs ++ ds)
+pub outs_both : (ys : List Exchange) (as_ bs : List law.Out) (cs ds : List Out) → AreOuts ys as_ cs → AreOuts ys bs ds → AreOuts ys (as_ ++ bs) (cs ++ ds)
 outs_both ys [] bs [] ds h k = k
 outs_both ys [] bs (c ∷ cs) ds h k = absurd h
 outs_both ys (a ∷ as_) bs [] ds h k = absurd h

@@ -3,10 +3,17 @@ pub mod Places
 pub mod Finishing
 pub mod Turning
 pub mod Quiet
+pub mod Short
+pub mod Lasts
 pub mod Agreeing
 pub mod Requests
 pub mod Changing
 pub mod Receiving
 pub mod Exchanging
 pub mod Removing
+pub mod Committing
 pub mod Sending
+pub mod Staying
+pub mod NewDefinitions
+pub mod Snapping
+pub mod Rounds

@@ -79,8 +79,8 @@ map_kept f (c ∷ cs) (suc n) h = ap (λ zs. c.asked ∷ zs) (map_kept f cs n h)
 -- ---- a client that joins
 
 pub joins : (o : Options) (s : Situation) (m m' : Machine) (query : Query) (first : First) → Stands o s m → IsServedFirst m.server.tables first → m'.server ≡ m.server → m'.exchanges ≡ m.exchanges → clients.Stands m'.clients (join s query (first_asked first)).customers
-    → m'.asks.items ≡ m.asks.items ++ first ∷ [] → m'.clock ≡ m.clock → m'.hold ≡ m.hold → Stands o (join s query (first_asked first)) m'
-joins o s m m' query first h served server exchanges_ clients_ asks clock hold = record {
+    → m'.asks.items ≡ m.asks.items ++ first ∷ [] → m'.clock ≡ m.clock → m'.hold ≡ m.hold → m'.lasts ≡ m.lasts → Stands o (join s query (first_asked first)) m'
+joins o s m m' query first h served server exchanges_ clients_ asks clock hold lasts = record {
   start = h.start;
   reached = reached_next o s (Joined query (first_asked first)) h.reached;
   server = subst (λ v. Rattle.core_server.specs.Standing.Stands o s.server v) (sym server) h.server;
@@ -90,7 +90,7 @@ joins o s m m' query first h served server exchanges_ clients_ asks clock hold =
   served = subst (AreServed o.tables) (sym asks) (all_more (IsServedFirst o.tables) m.asks.items first h.served (subst (λ (ts : List Served). IsServedFirst ts first) h.server.tables served));
   clock = clock ∙ h.clock;
   hold = hold ∙ h.hold;
-  short = h.short;
+  lasts = ap (λ l. l.items) lasts ∙ h.lasts;
   said = h.said;
   of_tables = h.of_tables;
   defined = h.defined;
@@ -152,9 +152,9 @@ module _ (o : Options) (s : Situation) (n e : ℕ) (c : Customer) (x : Exchange)
   takes = ap (take_exchange s n c) there ∙ ap (λ b. if b then law.is_unfit unfit.NoReply else if is_next c x.target then take_heard s n c x.given else law.is_unfit unfit.WrongAddress) (ap is_none given)
       ∙ ap (λ b. if b then take_heard s n c x.given else law.is_unfit unfit.WrongAddress) next ∙ ap (take_heard s n c) given
 
-  took : (m m' : Machine) (received : Received) → Stands o s m → IsReceived n (after_of c h) received → clients.Stands m'.clients (change_at (took_one h) s.customers n) → m'.server ≡ m.server → m'.exchanges ≡ m.exchanges → m'.asks ≡ m.asks → m'.clock ≡ m.clock → m'.hold ≡ m.hold
+  took : (m m' : Machine) (received : Received) → Stands o s m → IsReceived n (after_of c h) received → clients.Stands m'.clients (change_at (took_one h) s.customers n) → m'.server ≡ m.server → m'.exchanges ≡ m.exchanges → m'.asks ≡ m.asks → m'.clock ≡ m.clock → m'.hold ≡ m.hold → m'.lasts ≡ m.lasts
       → GoesOn o (take_by s n e (Some c)) received.outs m'
-  took m m' received st is clients_ server exchanges_ asks clock hold = subst (λ (t : Turn). GoesOn o t received.outs m') (sym takes) (
+  took m m' received st is clients_ server exchanges_ asks clock hold lasts = subst (λ (t : Turn). GoesOn o t received.outs m') (sym takes) (
     client_outs s.exchanges (out_of n (after_of c h).held (after_of c h).outcome) received.outs is.outs,
     record {
       start = st.start;
@@ -166,16 +166,16 @@ module _ (o : Options) (s : Situation) (n e : ℕ) (c : Customer) (x : Exchange)
       served = subst (λ a. AreServed o.tables a.items) (sym asks) st.served;
       clock = clock ∙ st.clock;
       hold = hold ∙ st.hold;
-      short = st.short;
+      lasts = ap (λ l. l.items) lasts ∙ st.lasts;
       said = st.said;
       of_tables = st.of_tables;
       defined = st.defined;
     },
   )
 
-  pub took_it : (m m' : Machine) (received : Received) → Stands o s m → IsReceived n (after_of c h) received → clients.Stands m'.clients (change_at (took_one h) s.customers n) → m'.server ≡ m.server → m'.exchanges ≡ m.exchanges → m'.asks ≡ m.asks → m'.clock ≡ m.clock → m'.hold ≡ m.hold
+  pub took_it : (m m' : Machine) (received : Received) → Stands o s m → IsReceived n (after_of c h) received → clients.Stands m'.clients (change_at (took_one h) s.customers n) → m'.server ≡ m.server → m'.exchanges ≡ m.exchanges → m'.asks ≡ m.asks → m'.clock ≡ m.clock → m'.hold ≡ m.hold → m'.lasts ≡ m.lasts
       → TookIt o s n e c x (Some h) received m'
-  took_it m m' received st is clients_ server exchanges_ asks clock hold = (took m m' received st is clients_ server exchanges_ asks clock hold, is.goes)
+  took_it m m' received st is clients_ server exchanges_ asks clock hold lasts = (took m m' received st is clients_ server exchanges_ asks clock hold lasts, is.goes)
 
 pub is_next_from : (c : Customer) (target : Option (List ℕ)) (next : List ℕ) → next ≡ next_target c → is_target target next ≡ true → is_next c target ≡ true
 is_next_from c target next same e = sym (ap (is_target target) same ∙ target_next c target) ∙ e

@@ -19,7 +19,7 @@ use Rattle.core_server.specs.declared.server.Server.{Server as KeptServer}
 use Rattle.core_server.specs.Standing as server
 use Rattle.core_exchanges.specs.declared.exchanges.Exchanges.{Exchanges}
 use Rattle.core_exchanges.specs.Standing as exchanges
-use Rattle.core_exchanges.specs.Standing.{ArePlaces, awaits}
+use Rattle.core_exchanges.specs.Standing.{ArePlaces}
 use Rattle.core_exchanges.specs.Giving.{is_late}
 use Rattle.core_clients.specs.Standing as clients
 use Rattle.core_machine.specs.declared.machine.Machine.{Machine}
@@ -33,10 +33,12 @@ use Rattle.core_machine.specs.Standing.{AreOfTables, Stands}
 use Rattle.core_machine.specs.Turns.{GoesOn}
 use Rattle.core_machine.proofs.Requests.{refused_as}
 use Rattle.core_machine.proofs.Changing.{awaiting_settles, moment_settles}
-use Rattle.core_machine.proofs.Quiet.{quiet_dropped, short_dropped}
+use Rattle.core_machine.proofs.Quiet.{quiet_dropped}
+use Rattle.core_machine.proofs.Short.{short_logs}
+use Rattle.core_machine.proofs.Lasts.{lasts_dropped}
 use Rattle.core_machine.proofs.Turning.{Around, said_refused, said_changed, settles, goes}
 
-change_same : (f : Exchange → Exchange) (xs : List Exchange) (i : ℕ) → ((x : Exchange) → f x ≡ x) → xs ≡ change_at f xs i
+pub change_same : (f : Exchange → Exchange) (xs : List Exchange) (i : ℕ) → ((x : Exchange) → f x ≡ x) → xs ≡ change_at f xs i
 change_same f [] i h = refl
 change_same f (x ∷ xs) zero h = ap (λ y. y ∷ xs) (sym (h x))
 change_same f (x ∷ xs) (suc i) h = ap (λ ys. x ∷ ys) (change_same f xs i h)
@@ -97,16 +99,17 @@ module _ (o : Options) (s : Situation) (n : ℕ) (live : is_live s.server.regist
   pub removes : turn_of o s (Remove n) ≡ finished o never s without
   removes = ap (λ b. if b then finished o never s without else Goes [] s) live
 
-  pub removed : (m m' : Machine) (now : List Out) → Stands o s m → server.Stands o without.server m'.server → SparesClients m m'
+  pub removed : (m m' : Machine) (now : List Out) → Stands o s m → server.Stands o without.server m'.server → SparesClients m m' → m'.lasts ≡ m.lasts
       → IsAwaitingAnswered o (next_by o s (Remove n)) s.exchanges m' n None now → GoesOn o (turn_of o s (Remove n)) now m'
-  removed m m' now h stands spares aw =
+  removed m m' now h stands spares lasts aw =
       let same : (next_by o s (Remove n)).server ≡ without.server = server_next o s without (Remove n) never removes h.start h.reached (λ v is. is) in
       let settled_ = settles o s without never (answered_in o without.server false None) aw.places s.exchanges
       (awaiting_settles others_wait o s without (Remove n) n 0 None aw.places h.start h.reached h.of_tables same (change_same (refused_as without.server None) s.exchanges 0 (λ x. refl)) aw.await (λ none. cc) (λ k other. quiet_dropped s.server n k Deleted other)) in
       subst (λ (u : Turn). GoesOn o u now m') (sym removes)
-      (goes replies_say o s without never m' now h.start (reached_settled o s without (Remove n) never removes h.start h.reached (λ v is. is)) (short_dropped s.server n Deleted h.short) h.said h.of_tables (let a = around o s m m' h spares in record { clients = a.clients; asks = a.asks; served = a.served; clock = a.clock; hold = a.hold; defined = a.defined }) stands
+      (goes replies_say o s without never m' now h.start (reached_settled o s without (Remove n) never removes h.start h.reached (λ v is. is)) (short_logs o without.server m'.server stands) h.said h.of_tables (let a = around o s m m' h spares in record { clients = a.clients; asks = a.asks; served = a.served; clock = a.clock; hold = a.hold; defined = a.defined }) stands
       (subst (λ (ys : List Exchange). exchanges.Stands m'.exchanges ys) (sym settled_.same) (subst (λ (v : Server). exchanges.Stands m'.exchanges (settled_at (answered_in o v false None) aw.places s.exchanges)) same aw.halfway.exchanges))
-      (aw.outs_are ∙ ap (λ (v : Server). texts_at (answered_in o v false None) aw.places s.exchanges) same ∙ settled_.texts))
+      (aw.outs_are ∙ ap (λ (v : Server). texts_at (answered_in o v false None) aw.places s.exchanges) same ∙ settled_.texts)
+      (ap (λ l. l.items) lasts ∙ h.lasts ∙ sym (lasts_dropped s.server n Deleted)))
 
 -- ---- the clock
 
@@ -117,31 +120,32 @@ module _ (o : Options) (s : Situation) (now : ℕ) (later : nat_lt now s.clock �
   pub moves : turn_of o s (Moment now) ≡ finished o (is_late_at o now) s at_moment
   moves = ap (λ b. if b then is_unfit unfit.ClockBack else finished o (is_late_at o now) s at_moment) later
 
-  pub moved : (m m' : Machine) (outs : List Out) (places : List ℕ) → Stands o s m → ArePlaces (is_late o now) s.exchanges places → server.Stands o s.server m'.server → Around o at_moment m'
+  pub moved : (m m' : Machine) (outs : List Out) (places : List ℕ) → Stands o s m → ArePlaces (is_late o now) s.exchanges places → server.Stands o s.server m'.server → Around o at_moment m' → m'.lasts ≡ m.lasts
       → Answered o (next_by o s (Moment now)) (settled_at (answered_in o (next_by o s (Moment now)).server true None) places s.exchanges) m'.server m'.exchanges [] outs
       (texts_at (answered_in o (next_by o s (Moment now)).server true None) places s.exchanges)
       → GoesOn o (turn_of o s (Moment now)) outs m'
-  moved m m' outs places h are stands around_ answered =
+  moved m m' outs places h are stands around_ lasts answered =
       let same : (next_by o s (Moment now)).server ≡ s.server = server_next o s at_moment (Moment now) (is_late_at o now) moves h.start h.reached (λ v is. is) in
       let settled_ = settles o s at_moment (is_late_at o now) (answered_in o s.server true None) places s.exchanges (moment_settles others_wait o s now (Moment now) places h.start h.reached h.of_tables same are) in
       subst (λ (u : Turn). GoesOn o u outs m') (sym moves)
-      (goes replies_say o s at_moment (is_late_at o now) m' outs h.start (reached_settled o s at_moment (Moment now) (is_late_at o now) moves h.start h.reached (λ v is. is)) h.short h.said h.of_tables around_ stands
+      (goes replies_say o s at_moment (is_late_at o now) m' outs h.start (reached_settled o s at_moment (Moment now) (is_late_at o now) moves h.start h.reached (λ v is. is)) (short_logs o s.server m'.server stands) h.said h.of_tables around_ stands
       (subst (λ (ys : List Exchange). exchanges.Stands m'.exchanges ys) (sym settled_.same) (subst (λ (v : Server). exchanges.Stands m'.exchanges (settled_at (answered_in o v true None) places s.exchanges)) same answered.halfway.exchanges))
-      (answered.outs ∙ ap (λ (v : Server). texts_at (answered_in o v true None) places s.exchanges) same ∙ settled_.texts))
+      (answered.outs ∙ ap (λ (v : Server). texts_at (answered_in o v true None) places s.exchanges) same ∙ settled_.texts)
+      (ap (λ l. l.items) lasts ∙ h.lasts))
 
 -- ---- a snapshot that ends
 
-roles_unchanged : (f : Exchange → Exchange) (v : Server) (xs : List Exchange) (i : ℕ) → ((x : Exchange) → (f x).role ≡ x.role) → AreGivenNumbers v (change_at f xs i) → AreGivenNumbers v xs
+pub roles_unchanged : (f : Exchange → Exchange) (v : Server) (xs : List Exchange) (i : ℕ) → ((x : Exchange) → (f x).role ≡ x.role) → AreGivenNumbers v (change_at f xs i) → AreGivenNumbers v xs
 roles_unchanged f v [] i same h = tt
 roles_unchanged f v (x ∷ xs) zero same h = (subst (Rattle.core_law.specs.Reached.WasGiven v) (same x) h.0, h.1)
 roles_unchanged f v (x ∷ xs) (suc i) same h = (h.0, roles_unchanged f v xs i same h.1)
 
-tables_changed : (o : Options) (f : Exchange → Exchange) (xs : List Exchange) (i : ℕ) → ((x : Exchange) → (f x).asked ≡ x.asked) → AreOfTables o xs → AreOfTables o (change_at f xs i)
+pub tables_changed : (o : Options) (f : Exchange → Exchange) (xs : List Exchange) (i : ℕ) → ((x : Exchange) → (f x).asked ≡ x.asked) → AreOfTables o xs → AreOfTables o (change_at f xs i)
 tables_changed o f [] i same h = tt
 tables_changed o f (x ∷ xs) zero same h = (subst (AsksOfTable o) (sym (same x)) h.0, h.1)
 tables_changed o f (x ∷ xs) (suc i) same h = (h.0, tables_changed o f xs i same h.1)
 
-owner_role : (x : Option Exchange) (n : ℕ) → owned_by x ≡ Some n → (y : Exchange) → x ≡ Some y → awaited y.asked y.role ≡ Some n
+pub owner_role : (x : Option Exchange) (n : ℕ) → owned_by x ≡ Some n → (y : Exchange) → x ≡ Some y → awaited y.asked y.role ≡ Some n
 owner_role None n h y e = cc
 owner_role (Some x) n h y e = let same : x ≡ y = cc in subst (λ (z : Exchange). awaited z.asked z.role ≡ Some n) same (pick x.role h)
   where
@@ -161,13 +165,13 @@ module _ (o : Options) (s : Situation) (e n : ℕ) (fault : Fault) (owned : owne
   pub roles_ended : (v : Server) → AreGivenNumbers v ended.exchanges → AreGivenNumbers v s.exchanges
   roles_ended v h = roles_unchanged (refused_at ended.server (code_of fault)) v s.exchanges e (λ x. refl) h
 
-  pub end : (m m' : Machine) (now : List Out) → Stands o s m → server.Stands o ended.server m'.server → SparesClients m m'
+  pub end : (m m' : Machine) (now : List Out) → Stands o s m → server.Stands o ended.server m'.server → SparesClients m m' → m'.lasts ≡ m.lasts
       → IsAwaitingAnswered o (next_by o s (SnapshotEnded e fault)) s.exchanges m' n (refusal_of e (Some (code_of fault))) now → GoesOn o (turn_of o s (SnapshotEnded e fault)) now m'
-  end m m' now h stands spares aw =
+  end m m' now h stands spares lasts aw =
       let r = refusal_of e (Some (code_of fault)) in
       let same : (next_by o s (SnapshotEnded e fault)).server ≡ ended.server = server_next o s ended (SnapshotEnded e fault) never ends h.start h.reached roles_ended in
       let reached = reached_settled o s ended (SnapshotEnded e fault) never ends h.start h.reached roles_ended in
-      let short = short_dropped s.server n SnapshotFailed h.short in
+      let short = short_logs o ended.server m'.server stands in
       let a = around o s m m' h spares in
       let settled_ = settles o s ended never (answered_in o ended.server false r) aw.places s.exchanges
       (awaiting_settles others_wait o s ended (SnapshotEnded e fault) n e (Some (code_of fault)) aw.places h.start h.reached h.of_tables same refl aw.await (λ some. owner_role (slice_get s.exchanges e) n owned) (λ k other. quiet_dropped s.server n k SnapshotFailed other)) in
@@ -177,7 +181,8 @@ module _ (o : Options) (s : Situation) (e n : ℕ) (fault : Fault) (owned : owne
       (tables_changed o (refused_at ended.server (code_of fault)) s.exchanges e (λ x. refl) h.of_tables)
       (record { clients = a.clients; asks = a.asks; served = a.served; clock = a.clock; hold = a.hold; defined = a.defined }) stands
       (subst (λ (ys : List Exchange). exchanges.Stands m'.exchanges ys) (sym settled_.same) (subst (λ (v : Server). exchanges.Stands m'.exchanges (settled_at (answered_in o v false r) aw.places s.exchanges)) same aw.halfway.exchanges))
-      (aw.outs_are ∙ ap (λ (v : Server). texts_at (answered_in o v false r) aw.places s.exchanges) same ∙ settled_.texts))
+      (aw.outs_are ∙ ap (λ (v : Server). texts_at (answered_in o v false r) aw.places s.exchanges) same ∙ settled_.texts)
+      (ap (λ l. l.items) lasts ∙ h.lasts ∙ sym (lasts_dropped s.server n SnapshotFailed)))
 
 -- the number under way is owned, and starting
 pub under_way_is : {P : Type 0} (s : Situation) (e n : ℕ) → Some n ≡ under_way s e → (owned_by (slice_get s.exchanges e) ≡ Some n → is_starting s.server.registry n ≡ true → P) → P

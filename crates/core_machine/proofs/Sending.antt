@@ -23,9 +23,9 @@ use Rattle.core_machine.specs.Opening.{IsServed, opening_of, IsRequested, Spares
 use Rattle.core_machine.specs.Standing.{AreSaid, AreOfTables, Stands}
 use Rattle.core_machine.specs.Turns.{GoesOn}
 use Rattle.core_machine.proofs.Exchanging.{all_more}
-use Rattle.core_machine.proofs.Quiet.{short_as}
+use Rattle.core_machine.proofs.Short.{short_logs}
 use Rattle.core_machine.proofs.Receiving.{asked_in, map_kept}
-use Rattle.core_machine.proofs.Requests.{refused_as, request_is, comes, quiet_opening}
+use Rattle.core_machine.proofs.Requests.{refused_as, request_is, comes}
 use Rattle.core_machine.proofs.Turning.{IsSaid, said_more, said_refused, goes}
 use Rattle.core_machine.proofs.Removing.{around}
 
@@ -59,15 +59,12 @@ module _ (o : Options) (s : Situation) (m : Machine) (h : Stands o s m) (asked :
   pub same_clock : t.clock ≡ s.clock
   same_clock = ap (λ (u : Situation). u.clock) (request_is o s outside target asked close)
 
-  pub short_now : HaveShortLogs t.server
-  short_now = subst HaveShortLogs (sym same_server) (short_as s.server (opening_of o s.server asked).server (quiet_opening o s.server asked) h.short)
+  said_code : (z : Situation) → z.server ≡ t.server → IsReached o z → HaveShortLogs t.server → (code : Option ErrorCode) → IsSaid (refused_as t.server code x)
+  said_code z is reached short None = tt
+  said_code z is reached short (Some code) = subst (λ (v : Server). IsSaid (refused_as v (Some code) x)) is (said_refused replies_say o z h.start reached (subst HaveShortLogs (sym is) short) code x tt)
 
-  said_code : (z : Situation) → z.server ≡ t.server → IsReached o z → (code : Option ErrorCode) → IsSaid (refused_as t.server code x)
-  said_code z is reached None = tt
-  said_code z is reached (Some code) = subst (λ (v : Server). IsSaid (refused_as v (Some code) x)) is (said_refused replies_say o z h.start reached (subst HaveShortLogs (sym is) short_now) code x tt)
-
-  pub said_now : (z : Situation) → z.server ≡ t.server → IsReached o z → AreSaid t.exchanges
-  said_now z is reached = subst AreSaid (sym same_exchanges) (said_more s.exchanges (refused_as t.server (opening_of o s.server asked).refusal x) h.said (said_code z is reached (opening_of o s.server asked).refusal))
+  pub said_now : (z : Situation) → z.server ≡ t.server → IsReached o z → HaveShortLogs t.server → AreSaid t.exchanges
+  said_now z is reached short = subst AreSaid (sym same_exchanges) (said_more s.exchanges (refused_as t.server (opening_of o s.server asked).refusal x) h.said (said_code z is reached short (opening_of o s.server asked).refusal))
 
   pub tables_now : AsksOfTable o asked → AreOfTables o t.exchanges
   tables_now is = subst (AreOfTables o) (sym same_exchanges) (all_more o s.exchanges (refused_as t.server (opening_of o s.server asked).refusal x) h.of_tables (refused_asked o t.server (opening_of o s.server asked).refusal x is))
@@ -81,8 +78,9 @@ came_in o s m m' target asked close i now h of room r spares =
     let turn = comes o s target asked close room in
     let reached : IsReached o (settled o never t) = subst (IsReached o) (ap (next_of s) turn) (reached_next o s (RequestCame target asked close) h.reached) in
     let a = around o s m m' h spares in
+    let short = short_logs o t.server m'.server r.server in
     subst (λ (u : Turn). GoesOn o u now m') (sym turn)
-    (goes replies_say o s t never m' now h.start reached (short_now o s m h asked true target close) (said_now o s m h asked true target close (settled o never t) refl reached) (tables_now o s m h asked true target close of)
+    (goes replies_say o s t never m' now h.start reached short (said_now o s m h asked true target close (settled o never t) refl reached short) (tables_now o s m h asked true target close of)
     (record {
       clients = subst (λ cs. clients.Stands m'.clients cs) (sym (same_customers o s m h asked true target close)) a.clients;
       asks = a.asks ∙ ap (λ (cs : List Customer). map asked_in cs) (sym (same_customers o s m h asked true target close));
@@ -91,7 +89,7 @@ came_in o s m m' target asked close i now h of room r spares =
       hold = a.hold;
       defined = a.defined;
     })
-    r.server r.exchanges r.outs)
+    r.server r.exchanges r.outs r.lasts)
 
 -- ---- a client's
 
@@ -111,8 +109,9 @@ module _ (o : Options) (s : Situation) (m : Machine) (h : Stands o s m) (n : ℕ
   sent_on m' i now of r clients_ asks clock hold =
       let reached : IsReached o (settled o never after_it) = subst (IsReached o) (ap (next_of s) sends) (reached_next o s (SendNext n) h.reached) in
       let same = same_customers o s m h asked false target false in
+      let short = short_logs o u.server m'.server r.server in
       subst (λ (z : Turn). GoesOn o z now m') (sym sends)
-      (goes replies_say o s after_it never m' now h.start reached (short_now o s m h asked false target false) (said_now o s m h asked false target false (settled o never after_it) refl reached) (tables_now o s m h asked false target false of)
+      (goes replies_say o s after_it never m' now h.start reached short (said_now o s m h asked false target false (settled o never after_it) refl reached short) (tables_now o s m h asked false target false of)
       (record {
         clients = subst (λ cs. clients.Stands m'.clients (change_at (waits_at (length s.exchanges)) cs n)) (sym same) (subst (λ k. clients.Stands m'.clients (change_at (waits_at k) s.customers n)) r.index_is clients_);
         asks = ap (λ a. map first_asked a.items) asks ∙ h.asks ∙ sym (map_kept (waits_at (length s.exchanges)) s.customers n (λ d. refl)) ∙ ap (λ (cs : List Customer). map asked_in (change_at (waits_at (length s.exchanges)) cs n)) (sym same);
@@ -121,7 +120,7 @@ module _ (o : Options) (s : Situation) (m : Machine) (h : Stands o s m) (n : ℕ
         hold = hold ∙ h.hold;
         defined = h.defined;
       })
-      r.server r.exchanges r.outs)
+      r.server r.exchanges r.outs r.lasts)
 
 -- what a client asks for, by the length of its target
 pub long_is : (o : Options) (s : Situation) (c : Customer) → is_long (next_target c) ≡ true → requested o s c ≡ request o s false None (Refuses codes.HeadTooLong) false

@@ -23,7 +23,7 @@ use Rattle.core_clients.specs.Standing as clients
 use Rattle.core_machine.specs.declared.machine.Machine.{Machine}
 use Rattle.core_machine.specs.Firsts.{first_asked, AreServed}
 use Rattle.core_machine.specs.Answering.{settled_at, texts_at, texts_now}
-use Rattle.core_machine.specs.Standing.{AreSaid, AreOfTables, IsSituated}
+use Rattle.core_machine.specs.Standing.{lasts_of, AreSaid, AreOfTables, IsSituated}
 use Rattle.core_machine.specs.Turns.{AreOuts, GoesOn}
 use Rattle.core_machine.proofs.Finishing.{all_outs, AreInside, texts_are, settled_is}
 
@@ -103,8 +103,8 @@ settles o s t late f places xs settling =
     }
 
 pub goes : (say : RepliesSay) (o : Options) (s t : Situation) (late : Exchange → Bool) (m : Machine) (outs : List Out) → IsStart o → IsReached o (settled o late t) → HaveShortLogs t.server → AreSaid t.exchanges → AreOfTables o t.exchanges → Around o t m
-    → server.Stands o t.server m.server → exchanges.Stands m.exchanges (settled o late t).exchanges → outs ≡ texts_now 0 s.exchanges (settled o late t).exchanges → GoesOn o (finished o late s t) outs m
-goes say o s t late m outs start reached short said of_tables around server exchanges texts =
+    → server.Stands o t.server m.server → exchanges.Stands m.exchanges (settled o late t).exchanges → outs ≡ texts_now 0 s.exchanges (settled o late t).exchanges → m.lasts.items ≡ lasts_of t.server → GoesOn o (finished o late s t) outs m
+goes say o s t late m outs start reached short said of_tables around server exchanges texts lasts =
     let next = settled o late t in (
       subst (AreOuts next.exchanges (given_now 0 s.exchanges next.exchanges)) (sym texts) (all_outs s.exchanges next.exchanges),
       record {
@@ -117,7 +117,7 @@ goes say o s t late m outs start reached short said of_tables around server exch
         served = around.served;
         clock = around.clock;
         hold = around.hold;
-        short = short;
+        lasts = lasts;
         said = said_settled say o next start reached short late t.exchanges said;
         of_tables = of_tables_settled o t.server late t.exchanges of_tables;
         defined = around.defined;

@@ -7,3 +7,6 @@ pub mod Opening
 pub mod Awaiting
 pub mod Customers
 pub mod Faults
+pub mod Committing
+pub mod Snapshots
+pub mod Watching

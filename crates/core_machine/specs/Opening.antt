@@ -1,5 +1,5 @@
 -- What a request comes to.
-use Rattle.std.specs.Prelude.{◌≡◌, ◌<◌, ℕ, ◌+◌, Bool, List, ◌++◌, length, Option, None, Some}
+use Rattle.std.specs.Prelude.{◌≡◌, ◌<◌, ℕ, ◌+◌, Bool, List, [], ◌∷◌, ◌++◌, length, Option, None, Some}
 use Rattle.shape_base.specs.declared.ask.Ask.{Ask}
 use Rattle.shape_base.specs.declared.ask.Named.{Named}
 use Rattle.shape_base.specs.declared.ask.Named.TheVariants.{Absent, Known, Strange}
@@ -8,7 +8,7 @@ use Rattle.shape_json.specs.ShapeHistory.{Reader}
 use Rattle.http_edge.specs.declared.error_code.ErrorCode.{ErrorCode}
 use Rattle.http_edge.specs.Lawful.{Asked, Refuses, AsksFor, refusal_to_register}
 use Rattle.core_events.specs.declared.out.Out.{Out}
-use Rattle.core_law.specs.Situation.{Options, Server, Role, Reads, Waits, Owns, Situation, known_of, reader_for}
+use Rattle.core_law.specs.Situation.{Options, Server, Role, Reads, Waits, Owns, HasNone, Situation, known_of, reader_for}
 use Rattle.core_law.specs.Steps.{with_shape, request, settled}
 use Rattle.core_law.specs.Clients.{never}
 use Rattle.core_exchanges.specs.declared.exchange.Asked as kept
@@ -20,7 +20,7 @@ use Rattle.core_server.specs.Standing as server
 use Rattle.core_machine.specs.declared.opening.Opened.{Opened}
 use Rattle.core_machine.specs.declared.machine.Machine.{Machine}
 use Rattle.core_machine.specs.Answering.{texts_now}
-use Rattle.core_machine.specs.Standing.{Stands}
+use Rattle.core_machine.specs.Standing.{lasts_of, Stands}
 
 -- what is asked for is of a served table
 abbrev pub IsServedBy : KeptServer → kept.Asked → Type 0
@@ -67,12 +67,20 @@ pub record IsOpened (o : Options) (opening : Opening) (new : KeptServer) (opened
 abbrev pub Opens : KeptServer → KeptServer → (Options → Server → Opening) → Opened → Type 0
 Opens old new opening opened = (o : Options) (v : Server) → server.Stands o v old → IsOpened o (opening o v) new opened
 
+-- the last commit is noted for a number that was registered
+abbrev pub noted : List (Option ℕ) → Role → Option ℕ → List (Option ℕ)
+noted lasts Reads last = lasts
+noted lasts (Waits n) last = lasts
+noted lasts (Owns n) last = lasts ++ last ∷ []
+noted lasts HasNone last = lasts
+
 -- An exchange more was made and answered: it has the next place, the server and the exchanges stand for those after the request, and what was put out is that exchange's reply.
 pub record IsRequested (o : Options) (s t : Situation) (old new : Machine) (before now : List Out) (index : ℕ) : Type 0 where
   pub index_is : index ≡ length s.exchanges
   pub server : server.Stands o t.server new.server
   pub exchanges : exchanges.Stands new.exchanges (settled o never t).exchanges
   pub outs : now ≡ before ++ texts_now 0 s.exchanges (settled o never t).exchanges
+  pub lasts : new.lasts.items ≡ lasts_of t.server
 
 -- the clients, what they ask, and the clock are as they were
 pub record SparesClients (old new : Machine) : Type 0 where

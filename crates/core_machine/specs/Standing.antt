@@ -1,11 +1,12 @@
 -- The situation for which a machine stands.
-use Rattle.std.specs.Prelude.{◌≡◌, List, length, map, IfSome}
+use Rattle.std.specs.Prelude.{◌≡◌, ℕ, List, length, map, Option, IfSome}
 use Rattle.std.specs.List.{AllByRecursion}
 use Rattle.fold_client.specs.Client.{Says}
 use Rattle.fold_client.specs.Following.{Heard}
-use Rattle.core_law.specs.Situation.{Options, Exchange, Customer, Situation}
+use Rattle.core_law.specs.Situation.{Options, Shape, Server, Exchange, Customer, Situation}
+use Rattle.core_law.specs.Steps.{id_before}
 use Rattle.core_law.specs.Laws.{IsStart}
-use Rattle.core_law.specs.Reached.{IsReached, HaveShortLogs, AsksOfTable}
+use Rattle.core_law.specs.Reached.{IsReached, AsksOfTable}
 use Rattle.core_server.specs.Standing as server
 use Rattle.core_exchanges.specs.Standing as exchanges
 use Rattle.core_clients.specs.Standing as clients
@@ -20,7 +21,11 @@ AreSaid xs = AllByRecursion (λ (x : Exchange). IfSome x.given (λ (h : Heard). 
 abbrev pub AreOfTables : Options → List Exchange → Type 0
 AreOfTables o xs = AllByRecursion (λ (x : Exchange). AsksOfTable o x.asked) xs
 
--- The machine stands for a situation to which events led: its server, its exchanges and its clients stand for the situation's, and the clock is its clock.
+-- for each number, in order, the id of the last commit before it was registered
+abbrev pub lasts_of : Server → List (Option ℕ)
+lasts_of v = map (λ (x : Shape). id_before v.commits x.before) v.shapes
+
+-- The machine stands for a situation to which events led: its server, its exchanges and its clients stand for the situation's, the clock is its clock, and the id of the last commit before each number is known.
 pub record Stands (o : Options) (s : Situation) (m : Machine) : Type 0 where
   pub start : IsStart o
   pub reached : IsReached o s
@@ -31,7 +36,7 @@ pub record Stands (o : Options) (s : Situation) (m : Machine) : Type 0 where
   pub served : AreServed o.tables m.asks.items
   pub clock : m.clock ≡ s.clock
   pub hold : m.hold ≡ o.limits.hold
-  pub short : HaveShortLogs s.server
+  pub lasts : m.lasts.items ≡ lasts_of s.server
   pub said : AreSaid s.exchanges
   pub of_tables : AreOfTables o s.exchanges
   pub defined : length o.catalog ≡ length o.tables

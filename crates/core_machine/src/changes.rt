@@ -23,6 +23,7 @@ impl Machine {
         ensures answered { IfOk result (λ outs. AnswersAwaiting self.old self.new number refusal.now outs) }
         ensures spares { OnOk result (SparesClients self.old self.new) }
         ensures server { OnOk result (self.new.server ≡ self.old.server) }
+        ensures lasts { OnOk result (self.new.lasts ≡ self.old.lasts) }
     {
         let places = self.exchanges.awaiting(number)?;
         let mut outs = Outs::new(self.alloc);

@@ -120,7 +120,7 @@ impl Machine {
     }
 
     /// A client takes the reply of an exchange whose target is its next one.
-    fn take(&mut self, client: u32, exchange: u32) -> Result<Received, StepError>
+    pub(crate) fn take(&mut self, client: u32, exchange: u32) -> Result<Received, StepError>
         ensures { (o : Options) (s : Situation) → Stands o s self.old → ReceivesTurn o s client exchange result self.new }
     {
         let Some(next) = self.clients.next_target(client)? else {

@@ -5,13 +5,16 @@
 
 mod answering;
 mod changes;
+mod commits;
 mod customers;
 mod fault;
 mod first;
+pub mod laws;
 mod machine;
 mod opening;
 mod replying;
 mod snapshots;
+mod watching;
 
 pub use fault::Fault;
 pub use first::{First, code_of};

@@ -1,7 +1,7 @@
 //! The machine.
-ghost use Rattle.std.specs.Prelude.{◌≡◌, true, IfOk};
+ghost use Rattle.std.specs.Prelude.{◌≡◌, true, length, IfOk};
 ghost use Rattle.shape_base.specs.Handle.{is_run};
-ghost use Rattle.core_law.specs.Situation.{at_start};
+ghost use Rattle.core_law.specs.Situation.{Options, Situation, at_start};
 ghost use Rattle.core_server.specs.Standing.{IsCatalog, options_of};
 ghost use Rattle.core_machine.specs.Standing.{Stands};
 
@@ -21,6 +21,8 @@ pub struct Machine {
     pub(crate) clients: Clients,
     /// What the first target of each client asks for.
     pub(crate) asks: Vec<First>,
+    /// For each number, in order, the id of the last commit before it was registered.
+    pub(crate) lasts: Vec<Option<u32>>,
     /// The moment, in milliseconds.
     pub(crate) clock: u64,
     /// How long a live request is held, in milliseconds.
@@ -47,8 +49,16 @@ impl Machine {
             exchanges: Exchanges::new(alloc),
             clients: Clients::new(alloc),
             asks: Vec::new(alloc),
+            lasts: Vec::new(alloc),
             clock: 0,
             hold,
         })
+    }
+
+    /// How many exchanges were made.
+    pub fn exchanges(&self) -> u64
+        ensures { (o : Options) (s : Situation) → Stands o s self.now → result ≡ length s.exchanges }
+    {
+        self.exchanges.len()
     }
 }

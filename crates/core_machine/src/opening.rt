@@ -4,12 +4,12 @@ ghost use Rattle.shape_base.specs.declared.ask.Named.TheVariants.{Absent};
 ghost use Rattle.shape_base.specs.RegistryHistory.{live_under};
 ghost use Rattle.http_edge.specs.Lawful as lawful;
 ghost use Rattle.core_law.specs.Run.{RequestCame, HeadCut};
-ghost use Rattle.core_exchanges.specs.Standing.{asked_of};
+ghost use Rattle.core_exchanges.specs.Standing.{asked_of, role_of};
 ghost use Rattle.core_server.specs.Standing as servers;
 ghost use Rattle.core_exchanges.specs.Standing.{has_space};
 ghost use Rattle.shape_registry.specs.State.{live_as};
 ghost use Rattle.core_law.specs.Situation as law;
-ghost use Rattle.core_machine.specs.Opening.{IsServed, IsServedBy, Opens, Requests, SparesClients, unless_refused, first_of, opening_of};
+ghost use Rattle.core_machine.specs.Opening.{IsServed, IsServedBy, Opens, Requests, SparesClients, unless_refused, first_of, opening_of, noted};
 ghost use Rattle.core_machine.specs.Replying.{refusal_of};
 ghost use Rattle.core_machine.specs.Standing.{IsSituated};
 ghost use Rattle.core_machine.specs.Turns.{Takes};
@@ -18,6 +18,7 @@ use crate::answering::{Refusal, answer_one};
 use crate::machine::Machine;
 use core_events::{Out, Outs, StepError};
 use core_exchanges::{Asked, Exchange, Role};
+use core_server::snapshot_laws::last_is_taken;
 use core_server::{RegisterError, Server};
 use http_edge::ErrorCode;
 use shape_base::{Ask, Named, OutOfMemory, Text};
@@ -43,7 +44,7 @@ fn plain(role: Role) -> Opened
 }
 
 /// The refusal of the exchange in a place, where there is one.
-fn refusal_at(index: u32, code: Option<ErrorCode>) -> Option<Refusal>
+pub(crate) fn refusal_at(index: u32, code: Option<ErrorCode>) -> Option<Refusal>
     ensures { result ≡ refusal_of index code }
 {
     match code {
@@ -100,6 +101,21 @@ fn open(alloc: Global, server: &mut Server, asked: &Asked) -> Result<Opened, Out
     }
 }
 
+/// Notes the last commit for a number that was registered.
+fn note(lasts: &mut Vec<Option<u32>>, role: Role, last: Option<u32>) -> Result<(), OutOfMemory>
+    ensures { OnOk result (lasts.new.items ≡ noted lasts.old.items (role_of role) last) }
+{
+    match role {
+        Role::Owns { .. } => {
+            lasts.push(last)?;
+            Ok(())
+        }
+        Role::Waits { .. } => Ok(()),
+        Role::Reads => Ok(()),
+        Role::HasNone => Ok(()),
+    }
+}
+
 impl Machine {
     /// One exchange more, which is answered where it can be.
     pub(crate) fn exchange(
@@ -116,7 +132,10 @@ impl Machine {
         ensures requested { IfOk result (λ index. Requests self.old self.new outside target (asked_of asked) close outs.old outs.new index) }
         ensures spares { OnOk result (SparesClients self.old self.new) }
     {
+        last_is_taken();
+        let last = self.server.last();
         let opened = open(self.alloc, &mut self.server, &asked)?;
+        note(&mut self.lasts, opened.role, last)?;
         let exchange = Exchange {
             outside,
             target,

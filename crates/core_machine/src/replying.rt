@@ -13,7 +13,7 @@ ghost use Rattle.shape_base.specs.RegistryHistory.{was_registered};
 ghost use Rattle.std.specs.Prelude.{true};
 
 use core_exchanges::{Asked, Role};
-use core_server::{AnswerError, Server};
+use core_server::Server;
 use http_edge::{ErrorCode, refusal_reply};
 use shape_base::{Ask, OutOfMemory, Reply};
 use std::alloc::Global;
@@ -28,11 +28,7 @@ fn answer(
     requires { IsSituated server.now }
     ensures { (o : Options) (v : law.Server) → servers.Stands o v server.now → IfOk result (λ reply. reply ≡ reply_in (written_to o v late (asked_of (Asked.AsksFor ask.now)))) }
 {
-    match server.answer(alloc, ask, late) {
-        Ok(reply) => Ok(reply),
-        Err(AnswerError::OutOfMemory) => Err(OutOfMemory),
-        Err(AnswerError::NotUtf8) => Err(OutOfMemory),
-    }
+    server.answer(alloc, ask, late)
 }
 
 /// The reply to what a request asks for, where there is one yet.

@@ -17,3 +17,5 @@ mod Effects
 mod Committing
 mod Liveness
 mod Reaching
+mod Offsets
+pub mod Lemmas

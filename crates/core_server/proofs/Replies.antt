@@ -32,12 +32,11 @@ use Rattle.shape_json.specs.ShapeHistory.{Reader, ShapeEvent, ShapeState, Ready,
 use Rattle.shape_json.specs.ShapeHistory as shapes
 use Rattle.shape_json.specs.Page.{Part, page_of}
 use Rattle.shape_state.specs.Standing as standing
-use Rattle.std.specs.Str.{IsUtf8}
 use Rattle.shape_json.specs.Answer.{Answer, Paged, in_run, is_empty, answer_ready, answer_first, answer_named, gone}
 use Rattle.shape_json.specs.Answer as answers
 use Rattle.shape_state.specs.declared.paged.Paged as pages
 use Rattle.shape_state.specs.declared.paged.Paged.TheVariants as paged
-use Rattle.shape_state.specs.Answers.{waits, IsPagedOf, IsPaged}
+use Rattle.shape_state.specs.Answers.{waits, IsPagedOf, IsPaged, HasUtf8}
 use Rattle.http_edge.specs.World.{World, schema_at}
 use Rattle.http_edge.specs.Schema.{schema_text}
 use Rattle.http_edge.specs.Lawful.{page_reply, reply_of}
@@ -49,9 +48,7 @@ use Rattle.shape_def.specs.declared.defining.Def.{Def}
 use Rattle.core_server.specs.declared.server.Server.{Server}
 use Rattle.core_server.specs.Standing.{Kept, knows_in, reader_in, IsKept, Stands}
 use Rattle.core_law.specs.Steps.{Written, body_of}
-use Rattle.core_server.specs.declared.answering.AnswerError.{AnswerError}
-use Rattle.core_server.specs.declared.answering.AnswerError.TheVariants as errors
-use Rattle.core_server.specs.Replies.{reply_to, start_of, waits_of, ready_named, ready_answer, answer_by, HasJoined, IsReplyTo, IsStrangePage, HasStrangeBytes, IsUnanswered}
+use Rattle.core_server.specs.Replies.{reply_to, start_of, waits_of, ready_named, ready_answer, answer_by, HasInner, IsReplyTo}
 use Rattle.core_server.proofs.Dropping.{not_true, Live, live_shape}
 
 -- ---- what is found
@@ -219,43 +216,18 @@ told_state o v n x k off live late p is tells = subst (λ l. IsPaged l.chunk (st
     (subst (λ r. IsPaged k.state.limits.chunk (state_after r k.state.limits x.events) off live late p) (sym is.reader)
     (tells x.events (subst (λ r. standing.Stands r k.state x.events) is.reader is.stands)))
 
-joined_of : (chunk : ℕ) (log : List Entry) (off : Offset) (live late : Bool) (p : pages.Paged) → IsPagedOf chunk log off live late p → HasJoined p
-joined_of chunk log off live late (paged.Page page) h = record { entries = (page_of chunk log off).entries; joins = h.1.inner }
-joined_of chunk log off live late paged.NotYet h = tt
-joined_of chunk log off live late paged.Starting h = tt
-joined_of chunk log off live late (paged.Gone cause) h = tt
-joined_of chunk log off live late (paged.OffsetAhead end) h = tt
+inner_of : (chunk : ℕ) (log : List Entry) (off : Offset) (live late : Bool) (p : pages.Paged) → IsPagedOf chunk log off live late p → HasUtf8 p → HasInner p
+inner_of chunk log off live late (paged.Page page) h utf8 = record { entries = (page_of chunk log off).entries; joins = h.1.inner; utf8 = utf8 }
+inner_of chunk log off live late paged.NotYet h utf8 = tt
+inner_of chunk log off live late paged.Starting h utf8 = tt
+inner_of chunk log off live late (paged.Gone cause) h utf8 = tt
+inner_of chunk log off live late (paged.OffsetAhead end) h utf8 = tt
 
 -- a page has the texts of entries
-pub has_joined : (chunk : ℕ) (st : ShapeState) (off : Offset) (live late : Bool) (p : pages.Paged) → IsPaged chunk st off live late p → HasJoined p
-has_joined chunk (shapes.Starting buffer) off live late p h = subst HasJoined (sym h) tt
-has_joined chunk (Ready log) off live late p h = joined_of chunk log off live late p h
-has_joined chunk (shapes.Gone cause) off live late p h = subst HasJoined (sym h) tt
-
-strange_later : (s : answers.Situation) (ask : Ask) (n : ℕ) (p : pages.Paged) (e : AnswerError) → IsPagedOf s.chunk (s.log n) ask.offset ask.live s.late p → IsStrangePage p e → IsUnanswered (answer_ready s ask (in_run s.run n) (s.log n)) e
-strange_later s ask n p errors.OutOfMemory h f = tt
-strange_later s ask n (paged.Page page) errors.NotUtf8 h f = subst HasStrangeBytes
-    (sym (ap (λ b. if b then answers.OffsetAhead (end_of (s.log n)) else if ask.live && (not s.late && is_empty (past ask.offset (s.log n))) then answers.NotYet else Paged (in_run s.run n) ask.offset (page_of s.chunk (s.log n) ask.offset)) h.0
-    ∙ ap (λ b. if b then answers.NotYet else Paged (in_run s.run n) ask.offset (page_of s.chunk (s.log n) ask.offset)) (waits_not ask.live s.late (past ask.offset (s.log n)) h.2)))
-    (λ utf8. f (subst IsUtf8 (sym h.1.inner) utf8))
-strange_later s ask n paged.NotYet errors.NotUtf8 h f = absurd f
-strange_later s ask n paged.Starting errors.NotUtf8 h f = absurd f
-strange_later s ask n (paged.Gone cause) errors.NotUtf8 h f = absurd f
-strange_later s ask n (paged.OffsetAhead end) errors.NotUtf8 h f = absurd f
-
-strange_first : (s : answers.Situation) (ask : Ask) (n : ℕ) (p : pages.Paged) (e : AnswerError) → IsPagedOf s.chunk (s.log n) Start false s.late p → IsStrangePage p e → IsUnanswered (Paged (in_run s.run n) Start (page_of s.chunk (s.log n) Start)) e
-strange_first s ask n p errors.OutOfMemory h f = tt
-strange_first s ask n (paged.Page page) errors.NotUtf8 h f = λ utf8. f (subst IsUtf8 (sym h.1.inner) utf8)
-strange_first s ask n paged.NotYet errors.NotUtf8 h f = absurd f
-strange_first s ask n paged.Starting errors.NotUtf8 h f = absurd f
-strange_first s ask n (paged.Gone cause) errors.NotUtf8 h f = absurd f
-strange_first s ask n (paged.OffsetAhead end) errors.NotUtf8 h f = absurd f
-
--- a page whose bytes are no UTF-8 is the answer's
-pub strange_page : (s : answers.Situation) (ask : Ask) (n : ℕ) (named : Named) (p : pages.Paged) (e : AnswerError) → IsPagedOf s.chunk (s.log n) (start_of named ask.offset) (waits_of named ask.live) s.late p → IsStrangePage p e → IsUnanswered (ready_named s ask named n) e
-strange_page s ask n Absent p e h f = strange_first s ask n p e h f
-strange_page s ask n (Known x) p e h f = strange_later s ask n p e h f
-strange_page s ask n Strange p e h f = strange_later s ask n p e h f
+pub has_inner : (chunk : ℕ) (st : ShapeState) (off : Offset) (live late : Bool) (p : pages.Paged) → IsPaged chunk st off live late p → HasUtf8 p → HasInner p
+has_inner chunk (shapes.Starting buffer) off live late p h utf8 = subst HasInner (sym h) tt
+has_inner chunk (Ready log) off live late p h utf8 = inner_of chunk log off live late p h utf8
+has_inner chunk (shapes.Gone cause) off live late p h utf8 = subst HasInner (sym h) tt
 
 -- the reply of an answer, as it was written
 reply_written : (o : Options) (v : law.Server) (ask : Ask) (a : Answer) (r : Option Reply) → option_map (λ (w : Written). w.reply) (option_map (λ reply. record { reply = reply; body = body_of a }) r) ≡ r
@@ -277,8 +249,8 @@ module _ (o : Options) (v : law.Server) (s : Server) (n : ℕ) (k : Kept) (h : S
       → IsPaged o.limits.chunk (state_after found_shape.shape.reader o.limits found_shape.shape.events) off wait late p
   page_told off wait late p tells = told_state o v n found_shape.shape k off wait late p found_shape.kept tells
 
-  pub page_joined : (off : Offset) (wait late : Bool) (p : pages.Paged) → ((events : List ShapeEvent) → standing.Stands (reader_in k) k.state events → IsPaged k.state.limits.chunk (state_after (reader_in k) k.state.limits events) off wait late p) → HasJoined p
-  page_joined off wait late p tells = has_joined o.limits.chunk (state_after found_shape.shape.reader o.limits found_shape.shape.events) off wait late p (page_told off wait late p tells)
+  pub page_inner : (off : Offset) (wait late : Bool) (p : pages.Paged) → ((events : List ShapeEvent) → standing.Stands (reader_in k) k.state events → IsPaged k.state.limits.chunk (state_after (reader_in k) k.state.limits events) off wait late p) → HasUtf8 p → HasInner p
+  page_inner off wait late p tells utf8 = has_inner o.limits.chunk (state_after found_shape.shape.reader o.limits found_shape.shape.events) off wait late p (page_told off wait late p tells) utf8
 
   module _ (ready : had_ready v.registry n ≡ true) (late : Bool) (ask : Ask) (off : Offset) (wait : Bool) (p : pages.Paged) (from : off ≡ start_of ask.named ask.offset) (waiting : wait ≡ waits_of ask.named ask.live)
       (tells : (events : List ShapeEvent) → standing.Stands (reader_in k) k.state events → IsPaged k.state.limits.chunk (state_after (reader_in k) k.state.limits events) off wait late p) where
@@ -290,7 +262,3 @@ module _ (o : Options) (v : law.Server) (s : Server) (n : ℕ) (k : Kept) (h : S
     kept_reply test reply same f = ready_is_paged o v n found_shape.shape k found_shape.kept found_shape.at ready late ask p reply page_now
         (subst (λ r. IsReplyTo ask (in_run r n) found_shape.shape.reader.knows p reply) h.run
         (subst (λ q. IsReplyTo ask (in_run s.run n) q p reply) (ap knows_in same ∙ ap (λ (r : Reader). r.knows) (sym found_shape.kept.reader)) f))
-
-    pub kept_strange : (e : AnswerError) → IsStrangePage p e → IsUnanswered (ready_answer (answers_from o v late) ask n) e
-    kept_strange e f = strange_page (answers_from o v late) ask n ask.named p e
-        (subst (λ st. IsPaged o.limits.chunk st (start_of ask.named ask.offset) (waits_of ask.named ask.live) late p) (logs o v n found_shape.shape k found_shape.kept found_shape.at ready late) page_now) f

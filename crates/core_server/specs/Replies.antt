@@ -1,10 +1,8 @@
 -- What a request is answered, by what is found for it.
 use Rattle.std.specs.Prelude.{◌≡◌, ℕ, Bool, false, List, Option, None, Some}
 use Rattle.std.specs.Option.{option_map}
-use Rattle.std.specs.Str.{IsUtf8}
 use Rattle.shape_base.specs.declared.offset.Offset.{Offset}
 use Rattle.shape_base.specs.declared.offset.Offset.TheVariants.{Start}
-use Rattle.shape_base.specs.declared.entry.Entry.{Entry}
 use Rattle.shape_base.specs.declared.handle.Handle.{Handle}
 use Rattle.shape_base.specs.declared.ask.Ask.{Ask}
 use Rattle.shape_base.specs.declared.ask.Named.{Named}
@@ -14,7 +12,7 @@ use Rattle.shape_base.specs.Shape.{Knows}
 use Rattle.shape_registry.specs.declared.found.Found.{Found}
 use Rattle.shape_registry.specs.declared.found.Found.TheVariants as found
 use Rattle.chunked_log.specs.Chunked.{Carries}
-use Rattle.shape_json.specs.Body.{inner_text}
+use Rattle.shape_json.specs.Body.{IsInner}
 use Rattle.shape_json.specs.Page.{Part, page_of}
 use Rattle.shape_json.specs.Answer.{Answer, Paged, in_run, answer_ready}
 use Rattle.shape_json.specs.Answer as answers
@@ -27,8 +25,6 @@ use Rattle.http_edge.specs.Lawful.{page_reply}
 use Rattle.core_law.specs.Situation.{Options}
 use Rattle.core_law.specs.Situation as law
 use Rattle.core_law.specs.Steps.{Written, answered}
-use Rattle.core_server.specs.declared.answering.AnswerError.{AnswerError}
-use Rattle.core_server.specs.declared.answering.AnswerError.TheVariants as errors
 
 -- the reply to a request, where there is one yet
 abbrev pub reply_to : Options → law.Server → Bool → Ask → Option Reply
@@ -66,18 +62,13 @@ answer_by s ask named found.Unregistered = answers.Unregistered
 
 -- ---- the page of a shape
 
--- bytes are the texts of entries, joined by commas
-pub record IsJoined (bytes : List ℕ) : Type 0 where
-  pub entries : List Entry
-  pub joins : bytes ≡ inner_text entries
-
 -- what is a page has the texts of entries
-abbrev pub HasJoined : pages.Paged → Type 0
-HasJoined (paged.Page page) = IsJoined page.inner
-HasJoined paged.NotYet = Unit {0}
-HasJoined paged.Starting = Unit {0}
-HasJoined (paged.Gone cause) = Unit {0}
-HasJoined (paged.OffsetAhead end) = Unit {0}
+abbrev pub HasInner : pages.Paged → Type 0
+HasInner (paged.Page page) = IsInner page.inner
+HasInner paged.NotYet = Unit {0}
+HasInner paged.Starting = Unit {0}
+HasInner (paged.Gone cause) = Unit {0}
+HasInner (paged.OffsetAhead end) = Unit {0}
 
 -- The reply that is what a shape answers; none while there is no answer yet.
 abbrev pub IsReplyTo : Ask → Handle → Knows → pages.Paged → Option Reply → Type 0
@@ -86,27 +77,3 @@ IsReplyTo ask h s paged.NotYet reply = reply ≡ None
 IsReplyTo ask h s paged.Starting reply = reply ≡ None
 IsReplyTo ask h s (paged.Gone cause) reply = reply ≡ None
 IsReplyTo ask h s (paged.OffsetAhead end) reply = reply ≡ Some (refusal codes.OffsetAhead)
-
--- ---- no answer
-
--- the page's bytes are no UTF-8
-abbrev pub IsStrangePage : pages.Paged → AnswerError → Type 0
-IsStrangePage p errors.OutOfMemory = Unit {0}
-IsStrangePage (paged.Page page) errors.NotUtf8 = IsUtf8 page.inner → ⊥
-IsStrangePage paged.NotYet errors.NotUtf8 = ⊥
-IsStrangePage paged.Starting errors.NotUtf8 = ⊥
-IsStrangePage (paged.Gone cause) errors.NotUtf8 = ⊥
-IsStrangePage (paged.OffsetAhead end) errors.NotUtf8 = ⊥
-
-abbrev pub HasStrangeBytes : Answer → Type 0
-HasStrangeBytes (Paged h from part) = IsUtf8 (inner_text part.entries) → ⊥
-HasStrangeBytes (answers.Gone named) = ⊥
-HasStrangeBytes (answers.OffsetAhead end) = ⊥
-HasStrangeBytes answers.NotYet = ⊥
-HasStrangeBytes (answers.Starting number) = ⊥
-HasStrangeBytes answers.Unregistered = ⊥
-
--- There is no reply for want of memory, or since the texts of the page that is the answer are no UTF-8.
-abbrev pub IsUnanswered : Answer → AnswerError → Type 0
-IsUnanswered answer errors.OutOfMemory = Unit {0}
-IsUnanswered answer errors.NotUtf8 = HasStrangeBytes answer

@@ -1,19 +1,19 @@
 //! What a request is answered.
-ghost use Rattle.std.specs.Prelude.{◌≡◌, ℕ, true, Some, IfOk, IfErr, IsUtf8};
+ghost use Rattle.std.specs.Prelude.{◌≡◌, ℕ, true, Some, IfOk};
 ghost use Rattle.std.specs.Option.{option_map};
 ghost use Rattle.shape_base.specs.RegistryHistory.{had_ready, is_live};
 ghost use Rattle.shape_registry.specs.State.{found_in};
 ghost use Rattle.shape_registry.specs.ByHistory.{found_after};
+ghost use Rattle.shape_json.specs.Body.{IsInner};
 ghost use Rattle.shape_json.specs.Page.{Part};
-ghost use Rattle.shape_json.specs.Answer.{in_run, answer_of};
+ghost use Rattle.shape_json.specs.Answer.{in_run};
 ghost use Rattle.chunked_log.specs.Chunked.{Carries};
 ghost use Rattle.http_edge.specs.Schema.{schema_text};
 ghost use Rattle.http_edge.specs.Lawful.{page_reply, conflict_reply, reply_of};
 ghost use Rattle.core_law.specs.Situation as law;
 ghost use Rattle.core_law.specs.Situation.{Options, answers_from, known_of};
 ghost use Rattle.core_server.specs.Standing.{Stands, IsSituated, knows_in};
-ghost use Rattle.core_server.specs.Replies.{reply_to, start_of, waits_of, ready_answer, IsJoined, HasJoined, IsReplyTo, IsStrangePage, IsUnanswered};
-ghost use Rattle.core_server.specs.declared.answering.AnswerError.TheVariants as errors;
+ghost use Rattle.core_server.specs.Replies.{reply_to, start_of, waits_of, ready_answer, HasInner, IsReplyTo};
 
 use crate::schema::schema_of;
 use crate::server::Server;
@@ -23,26 +23,6 @@ use shape_def::Def;
 use shape_registry::Found;
 use shape_state::Paged;
 use std::alloc::Global;
-use std::str;
-
-/// Why a request has no answer.
-#[derive(Clone, Copy, Debug, PartialEq, Eq)]
-pub enum AnswerError {
-    OutOfMemory,
-    /// The bytes of the page that is the answer are not UTF-8. A log has the bytes of texts, but its contract does not say so.
-    NotUtf8,
-}
-
-impl From<OutOfMemory> for AnswerError {
-    ghost use Rattle.std.specs.Prelude.{◌≡◌};
-    ghost use Rattle.core_server.specs.declared.answering.AnswerError.TheVariants as errors;
-
-    ghost from_gives = { λ _ e. e ≡ errors.OutOfMemory };
-
-    fn from(_error: OutOfMemory) -> AnswerError {
-        AnswerError::OutOfMemory
-    }
-}
 
 /// From where a request is answered, and whether it waits for what is new.
 fn place_of(ask: &Ask) -> (Offset, bool)
@@ -96,15 +76,10 @@ impl Server {
         number: u64,
         test: &Def,
         page: &Page,
-    ) -> Result<Reply, AnswerError>
-        requires { IsJoined page.now.inner }
-        ensures reply { IfOk result (λ reply. (part : Part) → Carries page.now part → reply ≡ page_reply ask.now (in_run self.now.run number) (Some (schema_text (knows_in test.now))) part) }
-        ensures refused { IfErr result (λ e. e ≡ errors.NotUtf8 → IsUtf8 page.now.inner → ⊥) }
+    ) -> Result<Reply, OutOfMemory>
+        requires { IsInner page.now.inner }
+        ensures { IfOk result (λ reply. (part : Part) → Carries page.now part → reply ≡ page_reply ask.now (in_run self.now.run number) (Some (schema_text (knows_in test.now))) part) }
     {
-        let bytes = page.inner.as_slice();
-        if str::from_utf8(bytes).is_err() {
-            return Err(AnswerError::NotUtf8);
-        }
         let handle = self.handle(alloc, number)?;
         let schema = schema_of(alloc, &test.definition().columns, test.selected())?;
         Ok(page_reply(alloc, ask, &handle, &schema, page)?)
@@ -118,10 +93,9 @@ impl Server {
         number: u64,
         test: &Def,
         paged: &Paged,
-    ) -> Result<Option<Reply>, AnswerError>
-        requires { HasJoined paged.now }
-        ensures reply { IfOk result (IsReplyTo ask.now (in_run self.now.run number) (knows_in test.now) paged.now) }
-        ensures refused { IfErr result (IsStrangePage paged.now) }
+    ) -> Result<Option<Reply>, OutOfMemory>
+        requires { HasInner paged.now }
+        ensures { IfOk result (IsReplyTo ask.now (in_run self.now.run number) (knows_in test.now) paged.now) }
     {
         match paged {
             Paged::Page(page) => Ok(Some(self.page_reply(alloc, ask, number, test, page)?)),
@@ -141,10 +115,9 @@ impl Server {
         ask: &Ask,
         number: u64,
         late: bool,
-    ) -> Result<Option<Reply>, AnswerError>
+    ) -> Result<Option<Reply>, OutOfMemory>
         requires { IsSituated self.now }
-        ensures reply { (o : Options) (v : law.Server) → Stands o v self.now → is_live v.registry number ≡ true → had_ready v.registry number ≡ true → IfOk result (λ reply. reply ≡ reply_of (known_of o v) ask.now (ready_answer (answers_from o v late) ask.now number)) }
-        ensures refused { (o : Options) (v : law.Server) → Stands o v self.now → is_live v.registry number ≡ true → had_ready v.registry number ≡ true → IfErr result (IsUnanswered (ready_answer (answers_from o v late) ask.now number)) }
+        ensures { (o : Options) (v : law.Server) → Stands o v self.now → is_live v.registry number ≡ true → had_ready v.registry number ≡ true → IfOk result (λ reply. reply ≡ reply_of (known_of o v) ask.now (ready_answer (answers_from o v late) ask.now number)) }
     {
         let Some(shape) = self.registry.kept(number) else {
             return Ok(None);
@@ -155,12 +128,9 @@ impl Server {
     }
 
     /// The reply to a request, late or not, where there is one yet.
-    ///
-    /// `NotUtf8` only where the texts of the page that is the answer are no UTF-8.
-    pub fn answer(&self, alloc: Global, ask: &Ask, late: bool) -> Result<Option<Reply>, AnswerError>
+    pub fn answer(&self, alloc: Global, ask: &Ask, late: bool) -> Result<Option<Reply>, OutOfMemory>
         requires { IsSituated self.now }
-        ensures reply { (o : Options) (v : law.Server) → Stands o v self.now → IfOk result (λ reply. reply ≡ reply_to o v late ask.now) }
-        ensures refused { (o : Options) (v : law.Server) → Stands o v self.now → IfErr result (IsUnanswered (answer_of (answers_from o v late) ask.now)) }
+        ensures { (o : Options) (v : law.Server) → Stands o v self.now → IfOk result (λ reply. reply ≡ reply_to o v late ask.now) }
     {
         match self.registry.lookup(ask) {
             Found::Ready { number } => self.ready_reply(alloc, ask, number, late),

@@ -11,7 +11,6 @@ mod server;
 pub mod snapshot_laws;
 mod snapshots;
 
-pub use answering::AnswerError;
 pub use registering::RegisterError;
 pub use server::Server;
 pub use snapshots::{SnapshotRefusal, refusal_of_snapshot, take_row};

@@ -11,8 +11,7 @@ ghost use Rattle.fold_client.specs.Taking.{held_by, Meets, Spares, IsLawfulTake}
 use super::body::{Body, body_in};
 use super::parts::{comes_back, is_bad, is_current, is_same_handle, next_handle};
 use super::rows::FoldedRows;
-use super::target::{append_cursor, append_place, append_query};
-use form_urlencoded::Serializer;
+use super::target::target_of;
 use shape_base::{Duplicate, Handle, Offset, OutOfMemory, Reply, Text};
 use std::alloc::Global;
 
@@ -134,14 +133,16 @@ impl Client {
     pub fn next_target(&self) -> Result<Text, OutOfMemory>
         ensures { IfOk result (λ text. text ≡ target_text self.now.query (held_by self.now)) }
     {
-        let alloc = self.alloc;
-        let mut form = Serializer::new(String::new(alloc));
-        append_query(&mut form, &self.query)?;
         let handle = self.handle.as_ref();
-        append_place(alloc, &mut form, handle, self.left_alone(), self.offset)?;
-        append_cursor(alloc, &mut form, self.cursor)?;
-        let form = form.finish();
-        Ok(Text::from_string(format!(in alloc; "/v1/shape?{form}")?))
+        let left = self.left_alone();
+        target_of(
+            self.alloc,
+            &self.query,
+            handle,
+            left,
+            self.offset,
+            self.cursor,
+        )
     }
 
     /// The handle that a conflict leaves.

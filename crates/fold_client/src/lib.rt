@@ -12,3 +12,4 @@ mod target;
 
 pub use client::{Client, Query, TakeError, Taken};
 pub use rows::{Fault, FoldedRows};
+pub use target::first_target;

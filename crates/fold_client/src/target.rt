@@ -1,8 +1,9 @@
 //! Targets of requests.
-ghost use Rattle.std.specs.Prelude.{◌≡◌, [], OnOk};
+ghost use Rattle.std.specs.Prelude.{◌≡◌, ◌++◌, [], codes, IfOk, OnOk};
 ghost use Rattle.std.specs.Option.{option_map, option_copied};
 ghost use Rattle.shape_base.specs.Handle.{handle_text};
-ghost use Rattle.fold_client.specs.Target.{with_value, with_cursor, left_alone, query_form, place_form};
+ghost use Rattle.fold_client.specs.Client.{nothing_held};
+ghost use Rattle.fold_client.specs.Target.{with_value, with_cursor, query_form, place_form, target_text};
 
 use super::client::Query;
 use form_urlencoded::Serializer;
@@ -87,4 +88,31 @@ pub fn append_cursor(
             Ok(())
         }
     }
+}
+
+/// The target of a request: the path, a query's parameters, the handle or else the one that was left, the offset, and after an up-to-date reply `live` and that reply's
+/// cursor.
+pub fn target_of(
+    alloc: Global,
+    query: &Query,
+    handle: Option<&Handle>,
+    left: Option<&Handle>,
+    offset: Offset,
+    cursor: Option<u64>,
+) -> Result<Text, OutOfMemory>
+    ensures { IfOk result (λ text. text ≡ codes "/v1/shape?" ++ with_cursor (place_form (query_form query.now) (option_copied handle.entry) (option_copied left.entry) offset) cursor) }
+{
+    let mut form = Serializer::new(String::new(alloc));
+    append_query(&mut form, query)?;
+    append_place(alloc, &mut form, handle, left, offset)?;
+    append_cursor(alloc, &mut form, cursor)?;
+    let form = form.finish();
+    Ok(Text::from_string(format!(in alloc; "/v1/shape?{form}")?))
+}
+
+/// The target of the first request of a client with a query.
+pub fn first_target(alloc: Global, query: &Query) -> Result<Text, OutOfMemory>
+    ensures { IfOk result (λ text. text ≡ target_text query.now nothing_held) }
+{
+    target_of(alloc, query, None, None, Offset::Start, None)
 }

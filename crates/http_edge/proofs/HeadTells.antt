@@ -1,20 +1,21 @@
 -- The bytes determine how a head is answered.
-use Rattle.std.proofs.Common.{◌≡◌, ℕ, ◌<◌, ◌≤◌, Bool, true, false, ◌⊎◌, inl, inr, List, [], length, Ok, Err, refl, sym, ap, ◌∙◌, subst, arith, append-nil}
+use Rattle.std.proofs.Common.{◌≡◌, ℕ, ◌<◌, ◌≤◌, Bool, true, false, ◌⊎◌, inl, inr, List, [], length, nat_lt, MatchBool, Ok, Err, refl, sym, ap, ◌∙◌, subst, arith, append-nil}
 use Rattle.std.proofs.lemmas.Bool.{false≢true}
-use Rattle.httparse.specs.Grammar.{RequestHead, ReadsRequest, HasNoRequest, NeverHasRequest}
+use Rattle.std.proofs.lemmas.Bool.Decides.{nat_tests}
+use Rattle.httparse.specs.Grammar.{RequestHead, print_request, ReadsRequest, HasNoRequest, NeverHasRequest}
 use Rattle.httparse.proofs.GrammarLemmas.{request_unique}
 use Rattle.http_edge.specs.declared.request.Request.{Request}
 use Rattle.http_edge.specs.declared.request.HeadError.TheVariants as errors
-use Rattle.http_edge.specs.Head.{front, has_body, HasHead, IsUnfinished, IsRequestOf, HasRequest, HasManyFields, Asks}
+use Rattle.http_edge.specs.Head.{front, has_body, HasHead, HasMore, IsUnfinished, IsRequestOf, HasRequest, HasManyFields, Asks}
 use Rattle.http_edge.specs.HeadLaws.{HeadsTell}
 
-one_head : (bytes : List ℕ) (h k : RequestHead) → HasHead bytes h → HasHead bytes k → h ≡ k
+pub one_head : (bytes : List ℕ) (h k : RequestHead) → HasHead bytes h → HasHead bytes k → h ≡ k
 one_head bytes h k x y = (request_unique bytes h k x.rest y.rest x.reads y.reads).0
 
-some_head : (bytes : List ℕ) (h : RequestHead) → HasHead bytes h → HasNoRequest bytes → ⊥
+pub some_head : (bytes : List ℕ) (h : RequestHead) → HasHead bytes h → HasNoRequest bytes → ⊥
 some_head bytes h x none = none h x.rest x.reads
 
-may_have_head : (bytes : List ℕ) (h : RequestHead) → HasHead bytes h → NeverHasRequest bytes → ⊥
+pub may_have_head : (bytes : List ℕ) (h : RequestHead) → HasHead bytes h → NeverHasRequest bytes → ⊥
 may_have_head bytes h x never = never [] h x.rest (subst (λ l. ReadsRequest l h x.rest) (sym (append-nil bytes)) x.reads)
 
 may_begin : (bytes : List ℕ) → IsUnfinished bytes → NeverHasRequest bytes → ⊥
@@ -80,3 +81,32 @@ tell input (Err errors.BodyRefused) (Err errors.Partial) x y = absurd (some_head
 tell input (Err errors.BodyRefused) (Err errors.HeadTooLong) x y = absurd (long_or_asked (front input) true _ x y)
 tell input (Err errors.BodyRefused) (Err errors.BadHead) x y = absurd (may_have_head (front input) x.head x.has y)
 tell input (Err errors.BodyRefused) (Err errors.BodyRefused) x y = inl refl
+
+-- ---- more bytes
+
+-- the length of a head that is there decides whether more bytes follow it
+pub more_behind : (input : List ℕ) (h : RequestHead) → HasHead (front input) h → length (print_request h) < length input → HasMore input
+more_behind input h has more = record { head = h; has = has; more = more }
+
+pub none_behind : (input : List ℕ) (h : RequestHead) → HasHead (front input) h → length input ≤ length (print_request h) → HasMore input → ⊥
+none_behind input h has last m =
+    let same = ap (λ (k : RequestHead). length (print_request k)) (one_head (front input) m.head h m.has has) in
+    omega (arith, m.more, last, same)
+
+follows_by : (b : Bool) (input : List ℕ) (h : RequestHead) → HasHead (front input) h → (b ≡ true → length (print_request h) < length input) → (b ≡ false → length input ≤ length (print_request h)) → MatchBool b (HasMore input) (HasMore input → ⊥)
+follows_by true input h has more last = more_behind input h has (more refl)
+follows_by false input h has more last = none_behind input h has (last refl)
+
+pub follows : (input bytes : List ℕ) (h : RequestHead) (rest : List ℕ) (n : ℕ) → bytes ≡ front input → ReadsRequest bytes h rest → n ≡ length (print_request h) → MatchBool (nat_lt n (length input)) (HasMore input) (HasMore input → ⊥)
+follows input bytes h rest n is reads len =
+    let has : HasHead (front input) h = record { rest = rest; reads = subst (λ l. ReadsRequest l h rest) is reads } in
+    follows_by (nat_lt n (length input)) input h has
+    (λ yes. grind (arith, nat_tests, yes, len))
+    (λ no. grind (arith, nat_tests, no, len))
+
+-- none follow where there is no head
+pub none_without : (input : List ℕ) → HasNoRequest (front input) → HasMore input → ⊥
+none_without input none m = some_head (front input) m.head m.has none
+
+pub none_ever : (input : List ℕ) → NeverHasRequest (front input) → HasMore input → ⊥
+none_ever input never m = may_have_head (front input) m.head m.has never

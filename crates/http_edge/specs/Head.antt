@@ -17,6 +17,12 @@ pub record HasHead (bytes : List ℕ) (h : RequestHead) : Type 0 where
   pub rest : List ℕ
   pub reads : ReadsRequest bytes h rest
 
+-- more bytes follow the head with which the first of these begin
+pub record HasMore (input : List ℕ) : Type 0 where
+  pub head : RequestHead
+  pub has : HasHead (front input) head
+  pub more : length (print_request head) < length input
+
 -- some bytes can follow that make these begin with a head
 pub record CanBegin (bytes : List ℕ) : Type 0 where
   pub more : List ℕ

@@ -1,16 +1,16 @@
 //! Heads of requests, read (RFC 9112, sections 2 to 6).
-ghost use Rattle.std.specs.Prelude.{◌≡◌, ◌≢◌, ℕ, ◌≤◌, List, ◌∷◌, ◌++◌, length, IfSome, IsNone, MatchBool, Err};
+ghost use Rattle.std.specs.Prelude.{◌≡◌, ◌≢◌, ℕ, ◌≤◌, List, ◌∷◌, ◌++◌, length, IfSome, IfOk, IsNone, MatchBool, Err};
 ghost use Rattle.shape_base.specs.Decimal.{IsSplit, LacksByte};
 ghost use Rattle.httparse.specs.Grammar.{HasNoRequest, NeverHasRequest, MayBecomeRequest};
 ghost use Rattle.httparse.specs.Spans.{IsRequestWithin, RequestOverflows, IsRequestOf as IsHeadOf};
-ghost use Rattle.http_edge.specs.Head.{front, CanBegin, IsRequestAnswer, IsHeadAnswer};
+ghost use Rattle.http_edge.specs.Head.{front, HasMore, CanBegin, IsRequestAnswer, IsHeadAnswer};
 
 use crate::head_fields::{have_body, have_close};
 use crate::request::{HeadError, Request};
 use crate::text_front::begins_text;
 use httparse::spans::{EMPTY_HEADER_SPAN, HeaderSpan, RequestSpans, parse_request};
 use httparse::{Error, Status};
-use shape_base::{Text, split_at_first};
+use shape_base::{OutOfMemory, Text, split_at_first};
 use std::alloc::Global;
 
 /// A head has at most this many bytes.
@@ -111,6 +111,20 @@ fn request_of(
         target: Text::of_bytes(target),
         close: head.version == 0 || have_close(bytes, fields),
     })
+}
+
+/// Whether more bytes follow the head with which the input begins, however many fields that has. The head is looked for
+/// in the first 16,384 bytes of the input.
+pub fn has_more(alloc: Global, input: &[u8]) -> Result<bool, OutOfMemory>
+    ensures { IfOk result (λ more. MatchBool more (HasMore input.now) (HasMore input.now → ⊥)) }
+{
+    let bytes = &input[..input.len().min(LONGEST)];
+    let mut fields = vec![in alloc; EMPTY_HEADER_SPAN; bytes.len()]?;
+    match parse_request(bytes, fields.as_mut_slice()) {
+        Ok(Status::Complete(head)) => Ok(head.len < input.len()),
+        Ok(Status::Partial) => Ok(false),
+        Err(_) => Ok(false),
+    }
 }
 
 /// The request whose head the input begins with. The first 16,384 bytes of the input are looked at.

@@ -24,7 +24,7 @@ pub mod text_laws;
 mod writing;
 
 pub use error_code::{Detail, ErrorCode};
-pub use head::read_request;
+pub use head::{has_more, read_request};
 pub use parameters::{decoded, has_bad_percent};
 pub use reading::read_reply;
 pub use refusal::Refusal;

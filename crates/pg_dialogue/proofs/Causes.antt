@@ -1,5 +1,5 @@
--- A message is never taken for a fault of the link.
-use Rattle.std.proofs.Common.{◌≡◌, ◌⊎◌, inl, inr, ℕ, Bool, true, false, cond, eqb, ◌||◌, List, [], ◌∷◌, length, map, Option, None, Some, Result, Ok, Err, sym, ap, ◌∙◌, subst}
+-- A message that is refused is the server's doing: it is never taken for a fault of the link.
+use Rattle.std.proofs.Common.{◌≡◌, ◌⊎◌, inl, inr, ℕ, Bool, true, false, cond, eqb, ◌||◌, List, [], ◌∷◌, length, map, Option, None, Some, Result, Ok, Err, refl, sym, ap, ◌∙◌, subst}
 use Rattle.std.specs.List.{list_all}
 use Rattle.std.specs.Str.{is_utf8}
 use Rattle.byte_format.specs.Format.{Read, int32, string}
@@ -14,36 +14,37 @@ use Rattle.pg_dialogue.specs.declared.wanted.Wanted.{Wanted}
 use Rattle.pg_dialogue.specs.declared.wanted.Wanted.TheVariants.{Authentication, Started, Completed, Ready, SnapshotColumn, SnapshotText, TableColumns, TableRow, CopyBoth}
 use Rattle.pg_dialogue.specs.declared.wanted.News.TheVariants.{Acknowledged, Shown, Described, Row}
 use Rattle.pg_dialogue.specs.Contents.{row_description, data_row}
-use Rattle.pg_dialogue.specs.Replies.{Reply, bad, error_with, error_response, allowed, authentication, ready, started, acknowledged_if, acknowledged_after, completed, one_column, fields_with, snapshot_column, table_of, columns_in, is_name, column_of, is_text, value_of, described, table_columns, row_with, table_row, text_with, snapshot_text, copy_both, reply_to, reply}
+use Rattle.pg_dialogue.specs.Course.{is_said}
+use Rattle.pg_dialogue.specs.Replies.{Reply, bad, error_with, error_response, allowed, ready, acknowledged_if, acknowledged_after, completed, one_column, fields_with, table_of, columns_in, is_name, column_of, is_text, value_of, described, row_with, text_with, reply_to, reply}
 
 abbrev Inside : Reply → Type 0
 Inside (Ok x) = Unit {0}
-Inside (Err e) = e ≡ LinkFault → ⊥
+Inside (Err e) = is_said e ≡ true
 
 either : (b : Bool) (x y : Reply) → Inside x → Inside y → Inside (cond b x y)
 either true x y p q = p
 either false x y p q = q
 
 bad_in : (place : ℕ) → Inside (bad place)
-bad_in place e = cc
+bad_in place = refl
 
 acknowledged_in : (b : Bool) (place : ℕ) → Inside (acknowledged_if b place)
 acknowledged_in true place = tt
 acknowledged_in false place = bad_in place
 
 utf8_in : (b : Bool) (place : ℕ) (x : Reply) → Inside x → Inside (cond b x (Err (NotUtf8 place)))
-utf8_in b place x p = either b x (Err (NotUtf8 place)) p (λ e. cc)
+utf8_in b place x p = either b x (Err (NotUtf8 place)) p refl
 
-error_by : (b : Bool) (place : ℕ) (code : List ℕ) → cond b (ErrorResponse code) (BadReply place) ≡ LinkFault → ⊥
-error_by true place code e = cc
-error_by false place code e = cc
+error_by : (b : Bool) (place : ℕ) (code : List ℕ) → is_said (cond b (ErrorResponse code) (BadReply place)) ≡ true
+error_by true place code = refl
+error_by false place code = refl
 
-error_in : (place : ℕ) (o : Option (List ℕ)) → error_with place o ≡ LinkFault → ⊥
-error_in place (Some code) e = error_by (is_utf8 code) place code e
-error_in place None e = cc
+error_in : (place : ℕ) (o : Option (List ℕ)) → is_said (error_with place o) ≡ true
+error_in place (Some code) = error_by (is_utf8 code) place code
+error_in place None = refl
 
 allowed_in : (place : ℕ) (r : Read ℕ) → Inside (allowed place r)
-allowed_in place (Ok x) = either (eqb x.0 0) (acknowledged_if (eqb (length x.1) 0) place) _ (acknowledged_in (eqb (length x.1) 0) place) (λ e. cc)
+allowed_in place (Ok x) = either (eqb x.0 0) (acknowledged_if (eqb (length x.1) 0) place) _ (acknowledged_in (eqb (length x.1) 0) place) refl
 allowed_in place (Err left) = bad_in place
 
 after_in : (place : ℕ) (r : Result (List ℕ) ℕ) → Inside (acknowledged_after place r)
@@ -92,9 +93,12 @@ unfolding reply
 reply_in w place kind payload =
     either (eqb kind 83 || eqb kind 78) (Ok None) _ tt (either (eqb kind 69) (Err (error_response place payload)) (reply_to w place kind payload) (error_in place (sqlstate_of payload)) (reply_to_in w place kind payload))
 
+pub said_by : (w : Wanted) (place kind : ℕ) (payload : List ℕ) (error : WireError) → reply w place kind payload ≡ Err error → is_said error ≡ true
+said_by w place kind payload error h = subst Inside h (reply_in w place kind payload)
+
 pub no_link_fault : (w : Wanted) (place kind : ℕ) (payload : List ℕ) (error : WireError) → (error ≡ OutOfMemory) ⊎ (reply w place kind payload ≡ Err error) → error ≡ LinkFault → ⊥
 no_link_fault w place kind payload error (inl h) e = let k = sym h ∙ e in cc
-no_link_fault w place kind payload error (inr h) e = subst Inside h (reply_in w place kind payload) e
+no_link_fault w place kind payload error (inr h) e = let k = sym (ap is_said e) ∙ said_by w place kind payload error h in cc
 
 abbrev pub answer_of : WireError → Result (Unit {0}) WireError
 answer_of e = Err e

@@ -1,9 +1,9 @@
 -- What is answered where memory ran out.
-use Rattle.std.proofs.Common.{◌≡◌, ◌⊎◌, inl, inr, Bool, true, false, List, [], ◌++◌, length, ℕ, Err, Result, refl, sym, ap, ◌∙◌, subst, arith}
+use Rattle.std.proofs.Common.{◌≡◌, inl, Bool, true, false, List, [], ◌++◌, length, ℕ, refl, sym, ap, ◌∙◌, subst, arith}
 use Rattle.std.proofs.lemmas.List.{append-nil, length-append}
 use Rattle.shape_base.specs.Outside.{AddsFront}
 use Rattle.pg_dialogue.specs.declared.wire_error.WireError.{WireError}
-use Rattle.pg_dialogue.specs.declared.wire_error.WireError.TheVariants.{OutOfMemory, LinkFault}
+use Rattle.pg_dialogue.specs.declared.wire_error.WireError.TheVariants.{OutOfMemory}
 use Rattle.pg_dialogue.specs.Dialogue.{Heard, Ends}
 use Rattle.pg_dialogue.specs.Links.{is_outside, WritesBy}
 

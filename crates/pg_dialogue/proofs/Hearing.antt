@@ -1,13 +1,13 @@
 -- Messages that the client waits for, one after the other.
-use Rattle.std.proofs.Common.{◌≡◌, ◌⊎◌, inl, inr, ℕ, ◌+◌, List, [], ◌∷◌, ◌++◌, length, take, drop, map, Option, Some, None, Result, Ok, Err, refl, sym, ap, ◌∙◌, append_assoc, arith}
+use Rattle.std.proofs.Common.{◌≡◌, ◌⊎◌, inl, inr, ℕ, List, Some, None, Ok, Err, ap, ◌∙◌}
 use Rattle.pg_dialogue.specs.declared.wire_error.WireError.{WireError}
-use Rattle.pg_dialogue.specs.declared.wire_error.WireError.TheVariants.{OutOfMemory, LinkFault, BadReply}
+use Rattle.pg_dialogue.specs.declared.wire_error.WireError.TheVariants.{OutOfMemory}
 use Rattle.pg_dialogue.specs.declared.wanted.Wanted.{Wanted}
 use Rattle.pg_dialogue.specs.declared.wanted.News.{News}
 use Rattle.pg_dialogue.specs.declared.wanted.Told.{Told}
 use Rattle.pg_dialogue.specs.Messages.{Said, Silent, Broken, Says, behind}
 use Rattle.pg_dialogue.specs.Replies.{reply}
-use Rattle.pg_dialogue.specs.Dialogue.{Heard, Wants, Refused, Met, noted, met_with, met, then_heard, answered, ended, error_of, Ends}
+use Rattle.pg_dialogue.specs.Dialogue.{Heard, Wants, Refused, Met, noted, met_with, met, then_heard, error_of, Ends}
 use Rattle.pg_dialogue.specs.Links.{stop_of, StopsSaid}
 
 -- ---- one message
@@ -22,7 +22,7 @@ met_passed s rest w told place kind payload e r = met_says s rest w told place k
 pub met_news : (s rest : Said) (w : Wanted) (told : Told) (news : News) (place kind : ℕ) (payload : List ℕ) → s ≡ Says place kind payload rest → reply w place kind payload ≡ Ok (Some news) → met s w told ≡ Met (noted told news) (behind place payload) rest
 met_news s rest w told news place kind payload e r = met_says s rest w told place kind payload e ∙ ap (met_with (met rest) w told (behind place payload) rest) r
 
-met_refused : (s rest : Said) (w : Wanted) (told : Told) (error : WireError) (place kind : ℕ) (payload : List ℕ) → s ≡ Says place kind payload rest → reply w place kind payload ≡ Err error → met s w told ≡ Refused error
+pub met_refused : (s rest : Said) (w : Wanted) (told : Told) (error : WireError) (place kind : ℕ) (payload : List ℕ) → s ≡ Says place kind payload rest → reply w place kind payload ≡ Err error → met s w told ≡ Refused error
 met_refused s rest w told error place kind payload e r = met_says s rest w told place kind payload e ∙ ap (met_with (met rest) w told (behind place payload) rest) r
 
 pub refuses : (s rest : Said) (w : Wanted) (told : Told) (error : WireError) (place kind : ℕ) (payload : List ℕ) → s ≡ Says place kind payload rest → (error ≡ OutOfMemory) ⊎ (reply w place kind payload ≡ Err error) → Ends error (met s w told)

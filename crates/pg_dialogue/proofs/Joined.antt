@@ -1,13 +1,12 @@
 -- Replies that are put together from columns or values.
-use Rattle.std.proofs.Common.{◌≡◌, ◌⊎◌, inl, inr, ℕ, Bool, true, false, cond, eqb, List, ◌++◌, ◌∷◌, [], length, map, Option, Some, None, Result, Ok, Err, refl, sym, ap, ◌∙◌, append_assoc}
+use Rattle.std.proofs.Common.{◌≡◌, ◌⊎◌, inl, inr, ℕ, Bool, true, false, cond, List, ◌++◌, length, map, Some, Result, Ok, Err, refl, sym, ap, ◌∙◌, append_assoc}
 use Rattle.std.specs.List.{list_all}
 use Rattle.shape_base.specs.declared.definition.Column.{Column}
 use Rattle.shape_base.specs.declared.value.Value as values
 use Rattle.pg_dialogue.specs.declared.wire_error.WireError.{WireError}
-use Rattle.pg_dialogue.specs.declared.wire_error.WireError.TheVariants.{OutOfMemory, BadReply, NotUtf8}
+use Rattle.pg_dialogue.specs.declared.wire_error.WireError.TheVariants.{OutOfMemory, NotUtf8}
 use Rattle.pg_dialogue.specs.declared.contents.Field.{Field}
 use Rattle.pg_dialogue.specs.declared.contents.Sent.{Sent}
-use Rattle.pg_dialogue.specs.declared.wanted.News.{News}
 use Rattle.pg_dialogue.specs.declared.wanted.News.TheVariants.{Acknowledged, Described, Row}
 use Rattle.pg_dialogue.specs.Columns.{next, columns_of, values_of}
 use Rattle.pg_dialogue.specs.Replies.{Reply, is_name, column_of, table_of, columns_in, one_column, described, is_text, value_of, row_with}

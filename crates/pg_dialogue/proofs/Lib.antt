@@ -10,3 +10,8 @@ pub mod Causes
 pub mod Exits
 pub mod Rows
 pub mod Steps
+pub mod Firsts
+pub mod Turning
+pub mod Taking
+pub mod Growing
+pub mod Listening

@@ -1,11 +1,11 @@
 -- A message that is read from a link is the next of those to come.
-use Rattle.std.proofs.Common.{◌≡◌, ◌⊎◌, inl, inr, ℕ, ◌+◌, ◌-◌, ◌<◌, ◌≤◌, List, [], ◌++◌, length, get_or, Some, None, refl, sym, ap, ◌∙◌, arith}
+use Rattle.std.proofs.Common.{◌≡◌, inl, inr, ℕ, ◌+◌, ◌-◌, ◌<◌, ◌≤◌, List, [], ◌++◌, length, get_or, Some, sym, ap, ◌∙◌, arith}
 use Rattle.std.proofs.lemmas.List.{append-nil, length-append}
 use Rattle.pg_dialogue.specs.declared.wire_error.WireError.{WireError}
 use Rattle.pg_dialogue.specs.declared.wire_error.WireError.TheVariants.{BadReply}
-use Rattle.pg_dialogue.specs.Messages.{Said, Silent, Broken, Says, behind, said}
+use Rattle.pg_dialogue.specs.Messages.{Said, Silent, Says, behind, said}
 use Rattle.pg_dialogue.specs.Dialogue.{ended}
-use Rattle.pg_dialogue.specs.Links.{within, to_come, since, Takes, IsShort, Stops, stop_of, StopsSaid}
+use Rattle.pg_dialogue.specs.Links.{within, to_come, since, Takes, Stops, stop_of, StopsSaid}
 use Rattle.pg_dialogue.proofs.Filling.{within_of}
 use Rattle.pg_dialogue.proofs.Saying.{size_in, said_few, said_small, said_cut, said_whole}
 

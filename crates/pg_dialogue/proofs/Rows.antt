@@ -1,17 +1,14 @@
 -- All rows, one after the other; and the pieces of each dialogue.
-use Rattle.std.proofs.Common.{◌≡◌, ◌⊎◌, inl, inr, ℕ, List, [], ◌∷◌, Option, Some, None, Result, Ok, Err, refl, sym, ap, subst, ◌∙◌}
+use Rattle.std.proofs.Common.{◌≡◌, inl, inr, ℕ, List, [], ◌∷◌, Option, Some, None, Result, Ok, Err, refl, sym, ap, subst, ◌∙◌}
 use Rattle.shape_base.specs.declared.value.Value as values
 use Rattle.shape_base.specs.declared.served.Served.{Served}
 use Rattle.pg_dialogue.specs.declared.login.Login.{Login}
 use Rattle.pg_dialogue.specs.declared.wire_error.WireError.{WireError}
-use Rattle.pg_dialogue.specs.declared.wire_error.WireError.TheVariants.{OutOfMemory, LinkFault, BadReply}
-use Rattle.pg_dialogue.specs.declared.wanted.Wanted.{Wanted}
 use Rattle.pg_dialogue.specs.declared.wanted.Wanted.TheVariants.{Authentication, Started, Completed, Ready, SnapshotColumn, SnapshotText, TableColumns, TableRow, CopyBoth}
-use Rattle.pg_dialogue.specs.declared.wanted.News.{News}
 use Rattle.pg_dialogue.specs.declared.wanted.Told.{Told}
 use Rattle.pg_dialogue.specs.Messages.{Said, Silent, Broken, Says, behind}
 use Rattle.pg_dialogue.specs.Replies.{Reply, reply}
-use Rattle.pg_dialogue.specs.Dialogue.{Heard, Wants, Refused, Met, met, met_with, noted, then_heard, Exchange, Talk, talk, error_of, Ends}
+use Rattle.pg_dialogue.specs.Dialogue.{Heard, Wants, Refused, Met, met, met_with, then_heard, Exchange, talk, error_of, Ends}
 use Rattle.pg_dialogue.specs.Dialogues.{nothing_told, row_or_ready, row_or_end, next_row, Rows, no_row, row_then, rows_then, all_rows, opening, closing, describing, streaming, keeping}
 use Rattle.pg_dialogue.specs.Queries.{startup, replication_startup, begin_query, snapshot_query, select_query, describe_query, commit_query, start_query}
 use Rattle.pg_dialogue.specs.Links.{to_come, Takes, Reads}

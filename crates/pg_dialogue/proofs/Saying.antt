@@ -1,8 +1,8 @@
 -- The messages in bytes, one after the other.
-use Rattle.std.proofs.Common.{◌≡◌, ◌⊎◌, inl, inr, ℕ, zero, suc, ◌+◌, ◌-◌, ◌<◌, ◌≤◌, Bool, true, false, cond, ltb, List, [], ◌∷◌, ◌++◌, length, get_or, take, drop, refl, sym, ap, ◌∙◌, arith, Some}
+use Rattle.std.proofs.Common.{◌≡◌, inl, inr, ℕ, zero, suc, ◌+◌, ◌-◌, ◌<◌, ◌≤◌, true, false, ltb, List, [], ◌∷◌, ◌++◌, length, get_or, take, drop, refl, ap, ◌∙◌, arith}
 use Rattle.std.specs.Int.{w32, from_be_bytes}
 use Rattle.std.proofs.lemmas.Bool.{le-ltb, lt-ltb}
-use Rattle.std.proofs.lemmas.List.{take_at, drop_at, length-append, length-drop, append-nil}
+use Rattle.std.proofs.lemmas.List.{take_at, drop_at, length-append, length-drop}
 use Rattle.byte_format.proofs.Codec.{chosen}
 use Rattle.pg_dialogue.specs.Messages.{First, Unfinished, TooSmall, Whole, payload_at, sized_at, first_of, Said, Silent, Broken, Says, behind, said_then, said_within, said}
 
@@ -28,7 +28,7 @@ sized_rest kind len bytes k payload rest e =
       | inr h ↦ payload_rest kind (len - 4) bytes k payload rest h.1
     ]
 
-first_rest : (bytes : List ℕ) (k : ℕ) (payload rest : List ℕ) → first_of bytes ≡ Whole k payload rest → 5 + length rest ≤ length bytes
+pub first_rest : (bytes : List ℕ) (k : ℕ) (payload rest : List ℕ) → first_of bytes ≡ Whole k payload rest → 5 + length rest ≤ length bytes
 first_rest [] k payload rest e = absurd cc
 first_rest (_ ∷ []) k payload rest e = absurd cc
 first_rest (_ ∷ _ ∷ []) k payload rest e = absurd cc
@@ -67,7 +67,7 @@ said_step place (b ∷ bytes) = same_later (said_within (length bytes)) said pla
 abbrev pub size_in : List ℕ → ℕ
 size_in head = from_be_bytes w32 (get_or head 1 0 ∷ get_or head 2 0 ∷ get_or head 3 0 ∷ get_or head 4 0 ∷ [])
 
-headed : (head bytes : List ℕ) → length head ≡ 5 → first_of (head ++ bytes) ≡ sized_at (get_or head 0 0) (size_in head) bytes
+pub headed : (head bytes : List ℕ) → length head ≡ 5 → first_of (head ++ bytes) ≡ sized_at (get_or head 0 0) (size_in head) bytes
 headed [] bytes e = absurd (omega arith)
 headed (_ ∷ []) bytes e = absurd (omega arith)
 headed (_ ∷ _ ∷ []) bytes e = absurd (omega arith)
@@ -76,7 +76,7 @@ headed (_ ∷ _ ∷ _ ∷ _ ∷ []) bytes e = absurd (omega arith)
 headed (a ∷ b ∷ c ∷ d ∷ e ∷ []) bytes _ = refl
 headed (_ ∷ _ ∷ _ ∷ _ ∷ _ ∷ _ ∷ head) bytes e = absurd (omega arith)
 
-few_first : (bytes : List ℕ) → length bytes < 5 → first_of bytes ≡ Unfinished
+pub few_first : (bytes : List ℕ) → length bytes < 5 → first_of bytes ≡ Unfinished
 few_first [] e = refl
 few_first (_ ∷ []) e = refl
 few_first (_ ∷ _ ∷ []) e = refl

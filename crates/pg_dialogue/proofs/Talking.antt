@@ -1,9 +1,8 @@
 -- Exchanges, one after the other.
-use Rattle.std.proofs.Common.{◌≡◌, ◌⊎◌, inl, inr, ℕ, ◌+◌, ◌≤◌, Bool, true, false, List, [], ◌∷◌, ◌++◌, length, drop, Option, Some, None, Result, Ok, Err, refl, sym, ap, subst, ◌∙◌, append_assoc, arith}
+use Rattle.std.proofs.Common.{◌≡◌, inl, inr, ℕ, ◌≤◌, Bool, true, false, List, [], ◌∷◌, ◌++◌, length, Some, refl, sym, ap, subst, ◌∙◌, append_assoc, arith}
 use Rattle.std.proofs.lemmas.List.{append-nil, length-append}
 use Rattle.shape_base.specs.Outside.{AddsFront}
 use Rattle.pg_dialogue.specs.declared.wire_error.WireError.{WireError}
-use Rattle.pg_dialogue.specs.declared.wire_error.WireError.TheVariants.{OutOfMemory, LinkFault}
 use Rattle.pg_dialogue.specs.declared.wanted.Wanted.{Wanted}
 use Rattle.pg_dialogue.specs.declared.wanted.Told.{Told}
 use Rattle.pg_dialogue.specs.Messages.{Said}

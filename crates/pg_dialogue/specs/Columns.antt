@@ -1,5 +1,5 @@
 -- Columns and rows whose texts have to be UTF-8, one after the other.
-use Rattle.std.specs.Prelude.{◌≡◌, ℕ, List, [], ◌∷◌, if◌then◌else◌, Result, Ok, Err}
+use Rattle.std.specs.Prelude.{ℕ, List, [], ◌∷◌, if◌then◌else◌, Result, Ok, Err}
 use Rattle.std.specs.Str.{is_utf8}
 use Rattle.shape_base.specs.declared.definition.Column.{Column}
 use Rattle.shape_base.specs.declared.value.Value as values

@@ -1,5 +1,5 @@
 -- What messages of the server hold (PostgreSQL manual, 55.7 Message Formats).
-use Rattle.std.specs.Prelude.{ℕ, ◌*◌, ◌<◌, Bool, false, List, [], ◌∷◌, ◌++◌, length, take, drop, nat_lt, ◌==◌, if◌then◌else◌, Result, Ok, Err}
+use Rattle.std.specs.Prelude.{ℕ, ◌*◌, ◌<◌, Bool, false, List, [], ◌∷◌, ◌++◌, length, take, drop, nat_lt, ◌==◌, if◌then◌else◌, Ok, Err}
 use Rattle.std.specs.List.{AllByRecursion}
 use Rattle.std.specs.Int.{w16, w32, to_be_bytes, from_be_bytes}
 use Rattle.byte_format.specs.Format.{Format, Read, ◌>>=◌, number_at, int16, int32, string, counted, named, ◌&◌}

@@ -1,7 +1,5 @@
 -- What the client reads in what the server said, and what it writes.
 use Rattle.std.specs.Prelude.{◌≡◌, ◌⊎◌, ℕ, List, [], ◌∷◌, ◌++◌, ◌==◌, if◌then◌else◌, Option, None, Some, Ok, Err}
-use Rattle.shape_base.specs.declared.value.Value as values
-use Rattle.pg_dialogue.specs.declared.login.SnapHead.{SnapHead}
 use Rattle.pg_dialogue.specs.declared.wire_error.WireError.{WireError}
 use Rattle.pg_dialogue.specs.declared.wire_error.WireError.TheVariants.{OutOfMemory, LinkFault, Ended, BadReply, TooLong}
 use Rattle.pg_dialogue.specs.declared.wanted.Wanted.{Wanted}

@@ -9,3 +9,6 @@ pub mod Dialogues
 pub mod Links
 pub mod Exchanges
 pub mod Outcomes
+pub mod Course
+pub mod Reached
+pub mod Pieces

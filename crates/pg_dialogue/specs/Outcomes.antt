@@ -1,5 +1,5 @@
 -- What the calls of a dialogue answer, by what the client makes of what the server says.
-use Rattle.std.specs.Prelude.{◌≡◌, ℕ, List, [], Option, None, Some, Result, Ok, Err}
+use Rattle.std.specs.Prelude.{◌≡◌, ℕ, List, Option, None, Some, Result, Ok, Err}
 use Rattle.shape_base.specs.declared.value.Value as values
 use Rattle.pg_dialogue.specs.declared.login.SnapHead.{SnapHead}
 use Rattle.pg_dialogue.specs.declared.wire_error.WireError.{WireError}

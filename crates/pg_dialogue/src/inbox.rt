@@ -27,7 +27,7 @@ pub(crate) struct Inbox {
 }
 
 /// The type byte and the length of a message.
-fn head_of(head: &[u8]) -> (u8, u32)
+pub(crate) fn head_of(head: &[u8]) -> (u8, u32)
     requires { length head.now ≡ 5 }
     ensures kind { result.0 ≡ slice_index head.now 0 }
     ensures len { result.1 ≡ from_be_bytes w32 (slice_index head.now 1 ∷ slice_index head.now 2 ∷ slice_index head.now 3 ∷ slice_index head.now 4 ∷ []) }

@@ -3,10 +3,13 @@
 
 mod contents;
 mod dialogue;
+mod first;
 mod inbox;
+pub mod laws;
 mod login;
 mod queries;
 mod replies;
+mod snap_reader;
 mod talk;
 mod wanted;
 mod wire_error;
@@ -14,4 +17,5 @@ mod wire_error;
 pub use dialogue::{Dialogue, describe, open_stream};
 pub use inbox::LIMIT;
 pub use login::{Login, SnapHead};
+pub use snap_reader::{SnapReader, SnapStep};
 pub use wire_error::WireError;

@@ -36,7 +36,7 @@ impl Told {
     }
 
     /// Keeps what a message told.
-    fn note(&mut self, news: News)
+    pub fn note(&mut self, news: News)
         ensures { self.new ≡ noted self.old news }
     {
         match news {

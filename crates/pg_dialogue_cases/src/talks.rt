@@ -16,7 +16,7 @@ pub(crate) enum Talk {
     Stream,
 }
 
-fn put_head(out: &mut String, head: &SnapHead) -> Result<(), OutOfMemory> {
+pub(crate) fn put_head(out: &mut String, head: &SnapHead) -> Result<(), OutOfMemory> {
     out.push_str("shown ")?;
     put_bytes(out, head.vis.as_bytes())?;
     let oid = head.oid;
@@ -31,7 +31,7 @@ fn put_head(out: &mut String, head: &SnapHead) -> Result<(), OutOfMemory> {
     Ok(())
 }
 
-fn put_row(out: &mut String, row: &Row) -> Result<(), OutOfMemory> {
+pub(crate) fn put_row(out: &mut String, row: &Row) -> Result<(), OutOfMemory> {
     out.push_str("row")?;
     for value in row.as_slice() {
         match value {
@@ -47,7 +47,7 @@ fn put_row(out: &mut String, row: &Row) -> Result<(), OutOfMemory> {
     Ok(())
 }
 
-fn put_error(out: &mut String, error: WireError) -> Result<(), OutOfMemory> {
+pub(crate) fn put_error(out: &mut String, error: WireError) -> Result<(), OutOfMemory> {
     match error {
         WireError::OutOfMemory => out.push_str("out_of_memory")?,
         WireError::LinkFault => out.push_str("link_fault")?,

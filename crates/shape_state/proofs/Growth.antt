@@ -1,6 +1,7 @@
 -- Logs of longer histories, and commits that come later.
 use Rattle.std.proofs.Common.{◌≡◌, ℕ, ◌<◌, ◌≤◌, Bool, true, false, List, [], ◌∷◌, ◌++◌, refl, sym, subst, ap, ◌∙◌, arith, append_assoc, append-nil, Option, None, Some}
 use Rattle.std.specs.Bool.{if◌then◌else◌}
+use Rattle.std.proofs.lemmas.Option.{same_Some}
 use Rattle.shape_base.specs.declared.cause.Cause.{Cause}
 use Rattle.shape_base.specs.declared.change.Tx.{Tx}
 use Rattle.shape_base.specs.declared.entry.Entry.{Entry}
@@ -12,6 +13,7 @@ use Rattle.shape_base.specs.Transactions.{LsnsRise}
 use Rattle.shape_base.specs.Log.{IsFront, start_from, unseen, entries_past}
 use Rattle.shape_log.specs.Texts as texts
 use Rattle.shape_json.specs.Page.{Part, page_of}
+use Rattle.shape_json.specs.Reading.{HaveOffsets}
 use Rattle.shape_json.specs.ShapeHistory.{Reader, ShapeEvent, Snapped, Took, Dropped, snapshot_in, taken, log_after, or_else, entries_in, is_passed, drop_at, drop_from, drop_of, last_lsn, MayAllFollow, IsLegal}
 use Rattle.shape_json.proofs.Lemmas.{page_stays}
 use Rattle.shape_json.proofs.Histories.{took_adds}
@@ -20,7 +22,7 @@ use Rattle.shape_state.specs.declared.state.State.{State}
 use Rattle.shape_state.specs.declared.state.Kept.{Kept}
 use Rattle.shape_state.specs.declared.state.Kept.TheVariants as kept
 use Rattle.shape_state.specs.Standing.{Stands, Keeps, IsLater}
-use Rattle.shape_state.specs.Growing.{LogGrows, PageSettles, ComesLater}
+use Rattle.shape_state.specs.Growing.{LogGrows, PageSettles, ComesLater, LogIsShort}
 use Rattle.shape_state.proofs.Ends.{rise_behind, over_end}
 use Rattle.shape_state.proofs.Life.{taken_took, taken_snapped, taken_dropped, snapshot_took}
 use Rattle.shape_state.proofs.Waiting.{same_end}
@@ -89,3 +91,13 @@ later_by r l events lsn (kept.Gone cause) is rise lt = tt
 
 pub comes_later : ComesLater
 comes_later r s events lsn st lt = later_by r s.limits events lsn s.kept st.keeps (legal_rise r s.limits events st.legal) lt
+
+-- ---- offsets
+
+short_by : (r : Reader) (l : Limits) (events : List ShapeEvent) (snapshot : Snapshot) (k : Kept) → Keeps r l events k → drop_of r l events ≡ None → snapshot_in events ≡ Some snapshot → HaveOffsets (log_after r.knows snapshot events)
+short_by r l events snapshot (kept.Waiting commits) is lives came = let none = is.none in cc
+short_by r l events snapshot (kept.Logging g) is lives came = subst (λ (s : Snapshot). HaveOffsets (log_after r.knows s events)) (same_Some is.snapshot snapshot (sym is.came ∙ came)) is.log.short
+short_by r l events snapshot (kept.Gone cause) is lives came = cc
+
+pub log_is_short : LogIsShort
+log_is_short r s events snapshot st lives came = short_by r s.limits events snapshot s.kept st.keeps lives came

@@ -7,3 +7,4 @@ mod Waiting
 mod Taking
 mod Fates
 mod Growth
+pub mod Lemmas

@@ -1,5 +1,6 @@
 -- What a shape answers, by its events.
 use Rattle.std.specs.Prelude.{◌≡◌, ◌≢◌, ℕ, Bool, true, false, List, [], ◌∷◌, ◌++◌, Option, None, Some}
+use Rattle.std.specs.Str.{IsUtf8}
 use Rattle.shape_base.specs.declared.cause.Cause.{Cause}
 use Rattle.shape_base.specs.declared.change.Tx.{Tx}
 use Rattle.shape_base.specs.declared.entry.Entry.{Entry}
@@ -84,6 +85,14 @@ abbrev pub IsPaged : ℕ → ShapeState → Offset → Bool → Bool → Paged �
 IsPaged chunk (Starting buffer) o live late p = p ≡ paged.Starting
 IsPaged chunk (Ready log) o live late p = IsPagedOf chunk log o live late p
 IsPaged chunk (Gone cause) o live late p = p ≡ paged.Gone cause
+
+-- The bytes of a page are UTF-8.
+abbrev pub HasUtf8 : Paged → Type 0
+HasUtf8 (paged.Page page) = IsUtf8 page.inner
+HasUtf8 paged.NotYet = Unit {0}
+HasUtf8 paged.Starting = Unit {0}
+HasUtf8 (paged.Gone cause) = Unit {0}
+HasUtf8 (paged.OffsetAhead end) = Unit {0}
 
 -- ---- the rest
 

@@ -14,7 +14,7 @@ ghost use Rattle.shape_snapshot.specs.Taken.{HasTaken};
 ghost use Rattle.shape_state.specs.Reading.{reader_of};
 ghost use Rattle.shape_state.specs.Later.{lsn_in};
 ghost use Rattle.shape_state.specs.Standing.{Keeps, Stands, Fits, IsLater, IsUnready, after};
-ghost use Rattle.shape_state.specs.Answers.{IsPrepared, IsPaged, IsReadyError, stage_of, log_bytes};
+ghost use Rattle.shape_state.specs.Answers.{IsPrepared, IsPaged, HasUtf8, IsReadyError, stage_of, log_bytes};
 
 use crate::paged::{Paged, Stage};
 use crate::prepared::Prepared;
@@ -243,7 +243,8 @@ impl<T: RowTest> Shape<T> {
 
     /// What a request for the page after an offset is answered. A request that is live and not late waits where nothing stands past the offset.
     pub fn page(&self, offset: Offset, live: bool, late: bool) -> Result<Paged, OutOfMemory>
-        ensures { (events : List ShapeEvent) → Stands (reader_of (T.knows self.now.emitter.test) (T.unread self.now.emitter.test)) self.now.state events → IfOk result (IsPaged self.now.state.limits.chunk (state_after (reader_of (T.knows self.now.emitter.test) (T.unread self.now.emitter.test)) self.now.state.limits events) offset live late) }
+        ensures paged { (events : List ShapeEvent) → Stands (reader_of (T.knows self.now.emitter.test) (T.unread self.now.emitter.test)) self.now.state events → IfOk result (IsPaged self.now.state.limits.chunk (state_after (reader_of (T.knows self.now.emitter.test) (T.unread self.now.emitter.test)) self.now.state.limits events) offset live late) }
+        ensures utf8 { IfOk result HasUtf8 }
     {
         self.state.page(offset, live, late)
     }

@@ -7,7 +7,7 @@ ghost use Rattle.shape_json.specs.Body.{capped};
 ghost use Rattle.shape_base.specs.declared.entry.Entry.{Entry};
 ghost use Rattle.chunked_log.specs.Chunked.{Holds};
 ghost use Rattle.shape_state.specs.Standing.{Stands, Fits, after, is_gone_in};
-ghost use Rattle.shape_state.specs.Answers.{IsPrepared, IsPaged, IsPagedOf, waits, stage_of, log_bytes};
+ghost use Rattle.shape_state.specs.Answers.{IsPrepared, IsPaged, IsPagedOf, HasUtf8, waits, stage_of, log_bytes};
 ghost use Rattle.shape_state.specs.declared.prepared.Prepared.TheVariants as prepared;
 
 use crate::commits::Commits;
@@ -185,7 +185,8 @@ impl State {
 
     /// The page of the log after an offset.
     pub(crate) fn page(&self, offset: Offset, live: bool, late: bool) -> Result<Paged, OutOfMemory>
-        ensures { (r : Reader) (events : List ShapeEvent) → Stands r self.now events → IfOk result (IsPaged self.now.limits.chunk (state_after r self.now.limits events) offset live late) }
+        ensures paged { (r : Reader) (events : List ShapeEvent) → Stands r self.now events → IfOk result (IsPaged self.now.limits.chunk (state_after r self.now.limits events) offset live late) }
+        ensures utf8 { IfOk result HasUtf8 }
     {
         match &self.kept {
             Kept::Waiting { .. } => Ok(Paged::Starting),
@@ -204,7 +205,8 @@ fn is_nothing_yet(live: bool, late: bool, count: u64) -> bool
 
 /// What a request for a page of a log is answered.
 fn page_of(log: &ChunkedLog, offset: Offset, live: bool, late: bool) -> Result<Paged, OutOfMemory>
-    ensures { (entries : List Entry) → Holds log.now entries → IfOk result (IsPagedOf log.now.least entries offset live late) }
+    ensures paged { (entries : List Entry) → Holds log.now entries → IfOk result (IsPagedOf log.now.least entries offset live late) }
+    ensures utf8 { IfOk result HasUtf8 }
 {
     let page = match log.page(offset) {
         Ok(page) => page,

@@ -1,1 +1,4 @@
+mod Moves
+mod Readings
 mod Streams
+mod Snapping

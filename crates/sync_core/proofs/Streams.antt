@@ -2,7 +2,7 @@
 use Rattle.std.proofs.Common.{◌≡◌, ℕ, ◌+◌, Bool, true, false, ◌||◌, List, [], ◌∷◌, ◌++◌, length, drop, refl, sym, ◌∙◌, ap, subst, true≢false, append_assoc, Option, None, Some, is_some, inl, inr}
 use Rattle.std.specs.Prelude.{Result, Ok, Err, MatchBool, IfErr, codes, ◌⊎◌}
 use Rattle.std.specs.Bool.{if◌then◌else◌}
-use Rattle.std.specs.List.{list_any, flat_map}
+use Rattle.std.specs.List.{list_any, flat_map, AllByRecursion}
 use Rattle.std.proofs.lemmas.List.{append-nil, length-append, map-append}
 use Rattle.std.proofs.lemmas.List.Folds.{list_any-append}
 use Rattle.std.proofs.lemmas.Grind.{flat_map-append}
@@ -15,7 +15,9 @@ use Rattle.tx_assembler.specs.declared.answer.AssembleError.{AssembleError}
 use Rattle.tx_assembler.specs.declared.answer.AssembleError.TheVariants as errors
 use Rattle.tx_assembler.specs.declared.answer.Fed.{Fed}
 use Rattle.tx_assembler.specs.Answers.{Answer, is_memory}
+use Rattle.tx_assembler.specs.Served.{AreServed}
 use Rattle.tx_assembler.specs.Shown.{Stretch, shown}
+use Rattle.tx_assembler.proofs.Lemmas.{tables_taken}
 use Rattle.tx_assembler.specs.Stream.{sent, due_next, if_given, HasTaken, TookOne, UnlessMemory}
 use Rattle.byte_format.specs.Whole.{whole}
 use Rattle.pgout.specs.declared.fault.MessageError.{MessageError}
@@ -32,7 +34,7 @@ use Rattle.pg_wire.specs.FrameList.{Held, held_within, held_from, frames_of}
 use Rattle.pg_wire.specs.Cutting.{Took, after, given}
 use Rattle.pg_wire.specs.Reached.{Reached}
 use Rattle.sync_core.specs.declared.stream.Brought.{Brought}
-use Rattle.sync_core.specs.Streaming.{HasCome, AreTaken, Stands, Brings, TakesItem, TakesItems, TakesFrame, NoFrame, OneFrame, BadFrames, Receives, fault_in, txs_in, refusal_in, later_refusal, txs_of, AreWhole}
+use Rattle.sync_core.specs.Streaming.{HasCome, AreTaken, Stands, Brings, TakesItem, TakesItems, TakesFrame, NoFrame, OneFrame, BadFrames, Receives, fault_in, txs_in, refusal_in, later_refusal, txs_of, AreOfServed, BringsServed}
 
 -- ---- messages
 
@@ -521,12 +523,36 @@ loop_more tables s bytes start m new b b' o c st goes mid takes is on brought =
       | Bad e all i ↦ let over = bad_over tables here e c new (open_from tables here (sym mid.come.over ∙ mid.goes)) i in absurd_over new.over over on
     ]
 
-all_append : (xs ys : List Tx) → AreWhole xs → AreWhole ys → AreWhole (xs ++ ys)
-all_append [] ys a b = b
-all_append (x ∷ xs) ys (x', a) b = (x', all_append xs ys a b)
+all_append : (P : Tx → Type 0) (xs ys : List Tx) → AllByRecursion P xs → AllByRecursion P ys → AllByRecursion P (xs ++ ys)
+all_append P [] ys h k = k
+all_append P (x ∷ xs) ys h k = (h.0, all_append P xs ys h.1 k)
 
-pub whole_more : (b b' : Brought) (c : declared.Outcome) (o : Option declared.Outcome) → o ≡ Some c → AreWhole b.txs → AreWhole (txs_of o) → b' ≡ record { txs = b.txs ++ txs_in c; refusal = later_refusal b.refusal (refusal_in c) } → AreWhole b'.txs
-whole_more b b' c o is whole more brought = subst (λ (x : Brought). AreWhole x.txs) (sym brought) (all_append b.txs (txs_in c) whole (subst (λ (x : Option declared.Outcome). AreWhole (txs_of x)) is more))
+-- what holds of each transaction holds with those of one frame more
+pub txs_more : (P : Tx → Type 0) (b b' : Brought) (c : declared.Outcome) (o : Option declared.Outcome) → o ≡ Some c → AllByRecursion P b.txs → AllByRecursion P (txs_of o) → b' ≡ record { txs = b.txs ++ txs_in c; refusal = later_refusal b.refusal (refusal_in c) }
+    → AllByRecursion P b'.txs
+txs_more P b b' c o is h more brought = subst (λ (x : Brought). AllByRecursion P x.txs) (sym brought) (all_append P b.txs (txs_in c) h (subst (λ (x : Option declared.Outcome). AllByRecursion P (txs_of x)) is more))
+
+-- ---- the served tables
+
+pub serves : (tables : List Served) (s : Stream) (m : program.Stream) → HasCome tables m s → m.assembler.tables ≡ tables
+serves tables s m h = tables_taken tables (done_in s) (messages_in s.now) m.assembler h.taken
+
+-- transactions of the tables that the program serves are of these
+pub of_served : (tables : List Served) (s : Stream) (m : program.Stream) (txs : List Tx) → HasCome tables m s → AreOfServed m.assembler.tables txs → AreOfServed tables txs
+of_served tables s m txs h k = subst (λ (ts : List Served). AreOfServed ts txs) (serves tables s m h) k
+
+-- a message brought what it led to
+pub served_one : (old : program.Stream) (b : Brought) (c : declared.Outcome) → AreOfServed old.assembler.tables (txs_in c) → b ≡ record { txs = [] ++ txs_in c; refusal = later_refusal None (refusal_in c) } → BringsServed old b.txs
+served_one old b c h is tables s st = subst (λ (x : Brought). AreOfServed tables x.txs) (sym is) (of_served tables s old (txs_in c) st.come h)
+
+-- nothing was brought
+pub served_none : (old : program.Stream) (b : Brought) → b ≡ record { txs = []; refusal = None } → BringsServed old b.txs
+served_none old b is tables s st = subst (λ (x : Brought). AreOfServed tables x.txs) (sym is) tt
+
+-- one frame more was taken
+pub served_more : (tables : List Served) (s : Stream) (m : program.Stream) (b b' : Brought) (c : declared.Outcome) (o : Option declared.Outcome) → HasCome tables m s → o ≡ Some c → AreOfServed tables b.txs → AreOfServed m.assembler.tables (txs_of o)
+    → b' ≡ record { txs = b.txs ++ txs_in c; refusal = later_refusal b.refusal (refusal_in c) } → AreOfServed tables b'.txs
+served_more tables s m b b' c o h is before more brought = txs_more (λ (tx : Tx). AreServed tables tx.defs) b b' c o is before (of_served tables s m (txs_of o) h more) brought
 
 -- the bytes were taken in, and no frame yet
 pub loop_starts : (tables : List Served) (s : Stream) (bytes : List ℕ) (start : program.Stream) (frames : Reached) (b : Brought) (st : Stands tables start s) (goes : start.over ≡ false) → Took (s.fed ++ bytes) (st.frames goes).0 frames → b ≡ record { txs = []; refusal = None }

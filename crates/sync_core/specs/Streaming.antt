@@ -8,6 +8,7 @@ use Rattle.pg_wire.specs.Cutting.{Took}
 use Rattle.shape_base.specs.declared.change.Tx.{Tx}
 use Rattle.shape_base.specs.declared.served.Served.{Served}
 use Rattle.shape_base.specs.Transactions.{IsWhole}
+use Rattle.tx_assembler.specs.Served.{AreServed}
 use Rattle.tx_assembler.specs.Stream.{HasTaken}
 use Rattle.sync_core.specs.declared.stream.Stream as program
 use Rattle.sync_core.specs.declared.stream.Refusal.{Refusal}
@@ -88,3 +89,11 @@ pub record Receives (tables : List Served) (s next : Stream) (b : Brought) (new 
 -- each is whole
 abbrev pub AreWhole : List Tx → Type 0
 AreWhole = AllByRecursion IsWhole
+
+-- each has definitions of these served tables alone
+abbrev pub AreOfServed : List Served → List Tx → Type 0
+AreOfServed tables = AllByRecursion (λ (tx : Tx). AreServed tables tx.defs)
+
+-- for the served tables of each stream for which the program's stood
+abbrev pub BringsServed : program.Stream → List Tx → Type 0
+BringsServed old txs = (tables : List Served) (s : Stream) → Stands tables old s → AreOfServed tables txs

@@ -1,4 +1,9 @@
 //! One machine over events: what a stream, its snapshots, requests and clients bring, and what is put out for it.
 #![tactic(auto)]
 
+mod reading;
+pub mod snapshots;
+mod stepping;
 pub mod stream;
+
+pub use stepping::Core;

@@ -8,7 +8,7 @@ ghost use Rattle.pgout.specs.declared.message.Message.{Message};
 ghost use Rattle.tx_assembler.specs.Stream.{HasTaken};
 ghost use Rattle.sync_core.specs.Stream as spec;
 ghost use Rattle.sync_core.specs.Stream.{item_of, begun, anew, with_piece, assembly_name, frame_fault, Sent, Framed};
-ghost use Rattle.sync_core.specs.Streaming.{HasCome, Stands, TakesItem, TakesFrame, Receives, AreWhole, txs_in, txs_of, refusal_in, later_refusal};
+ghost use Rattle.sync_core.specs.Streaming.{HasCome, Stands, TakesItem, TakesFrame, Receives, AreWhole, AreOfServed, BringsServed, txs_in, txs_of, refusal_in, later_refusal};
 
 use pg_wire::{Frame, FrameError, Frames};
 use pgout::{Message, MessageError, read_message};
@@ -149,6 +149,7 @@ impl Stream {
         requires goes { self.old.over ≡ false }
         ensures takes { (tables : List Served) (s : spec.Stream) → HasCome tables self.old s → IfOk result (λ outcome. TakesItem tables s (spec.Read message) outcome self.new) }
         ensures whole { IfOk result (λ outcome. AreWhole (txs_in outcome)) }
+        ensures served { IfOk result (λ outcome. AreOfServed self.old.assembler.tables (txs_in outcome)) }
         ensures frames { self.new.frames ≡ self.old.frames }
     {
         let Some(next) = self.count.checked_add(1) else {
@@ -182,6 +183,7 @@ impl Stream {
         requires { self.old.over ≡ false }
         ensures takes { (tables : List Served) (s : spec.Stream) → HasCome tables self.old s → IfOk result (λ outcome. TakesItem tables s (item_of bytes.now) outcome self.new) }
         ensures whole { IfOk result (λ outcome. AreWhole (txs_in outcome)) }
+        ensures served { IfOk result (λ outcome. AreOfServed self.old.assembler.tables (txs_in outcome)) }
         ensures frames { self.new.frames ≡ self.old.frames }
     {
         match read_message(alloc, bytes) {
@@ -199,6 +201,7 @@ impl Stream {
         requires { self.old.over ≡ false }
         ensures takes { (tables : List Served) (s : spec.Stream) (fed : List ℕ) (taken : List Frame) → HasCome tables self.old s → Took fed taken self.old.frames → IfOk result (λ outcome. TakesFrame tables s fed taken outcome self.new) }
         ensures whole { IfOk result (λ outcome. AreWhole (txs_of outcome)) }
+        ensures served { IfOk result (λ outcome. AreOfServed self.old.assembler.tables (txs_of outcome)) }
     {
         match self.frames.next() {
             Ok(None) => Ok(None),
@@ -223,6 +226,7 @@ impl Stream {
     pub fn receive_message(&mut self, alloc: Global, bytes: &[u8]) -> Result<Brought, OutOfMemory>
         ensures receives { (tables : List Served) (s : spec.Stream) → Stands tables self.old s → IfOk result (λ brought. Receives tables s (with_piece tables s (Sent bytes.now)) brought self.new) }
         ensures whole { IfOk result (λ brought. AreWhole brought.txs) }
+        ensures served { IfOk result (λ brought. BringsServed self.old brought.txs) }
     {
         if self.over {
             return Ok(Brought::nothing(alloc));
@@ -237,6 +241,7 @@ impl Stream {
     pub fn receive_frames(&mut self, alloc: Global, bytes: &[u8]) -> Result<Brought, OutOfMemory>
         ensures receives { (tables : List Served) (s : spec.Stream) → Stands tables self.old s → IfOk result (λ brought. Receives tables s (with_piece tables s (Framed bytes.now)) brought self.new) }
         ensures whole { IfOk result (λ brought. AreWhole brought.txs) }
+        ensures served { IfOk result (λ brought. BringsServed self.old brought.txs) }
     {
         let mut brought = Brought::nothing(alloc);
         if self.over {

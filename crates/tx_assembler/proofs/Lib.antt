@@ -1,6 +1,7 @@
 pub mod Loops
 pub mod Targets
 pub mod Wholes
+pub mod Served
 pub mod Pieces
 pub mod Standing
 pub mod Runs

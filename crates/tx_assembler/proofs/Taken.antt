@@ -128,3 +128,7 @@ begins_on old tables done present h = record { is = reopened_is tables done pres
 
 pub last_taken : (s : Situation) → IsLastTaken s s.last
 last_taken s tables done present h = ap (λ (x : Situation). x.last) (reopened_is tables done present s h)
+
+-- an assembler serves these tables
+pub tables_taken : (tables : List Served) (done : List Stretch) (present : List Message) (s : Situation) → HasTaken tables done present s → s.tables ≡ tables
+tables_taken tables done present s h = ap (λ (x : Situation). x.tables) (reopened_is tables done present s h)

@@ -34,7 +34,7 @@ abbrev IsErrs : {A : Type 0} → Answer A → Type 0
 IsErrs (Ok x) = ⊥
 IsErrs (Err e) = Unit {0}
 
-not_err : {A : Type 0} (e : AssembleError) (x : A) → ◌≡◌ {A = Answer A} (Err e) (Ok x) → ⊥
+pub not_err : {A : Type 0} (e : AssembleError) (x : A) → ◌≡◌ {A = Answer A} (Err e) (Ok x) → ⊥
 not_err e x h = subst IsErrs h tt
 
 abbrev taken_out : {A : Type 0} → A → Answer A → A
@@ -49,7 +49,7 @@ pub through : {A B : Type 0} (P : A → Type 0) (Q : B → Type 0) (a : Answer A
 through P Q (Ok x) f p q y h = q x (p x refl) y h
 through P Q (Err e) f p q y h = absurd (not_err e y h)
 
-said : {A : Type 0} (P : A → Type 0) (x y : A) → ◌≡◌ {A = Answer A} (Ok x) (Ok y) → P x → P y
+pub said : {A : Type 0} (P : A → Type 0) (x y : A) → ◌≡◌ {A = Answer A} (Ok x) (Ok y) → P x → P y
 said P x y h p = subst P (ok_is x y h) p
 
 -- ---- widths

@@ -2,6 +2,7 @@ pub mod Answers
 pub mod Rows
 pub mod Kept
 pub mod Whole
+pub mod Served
 pub mod Situation
 pub mod Feeding
 pub mod Taking

@@ -5,6 +5,7 @@ use Rattle.relation_cache.specs.Relations.{ByOid}
 use Rattle.tx_assembler.specs.declared.stage.Stage.{Stage}
 use Rattle.tx_assembler.specs.declared.stage.Stage.TheVariants.{Outside, Passing, Taking, Refused}
 use Rattle.tx_assembler.specs.Whole.{IsAssembled}
+use Rattle.tx_assembler.specs.Served.{AreNarrow, IsServedStage}
 
 pub record Situation : Type 0 where
   pub tables : List Served
@@ -20,6 +21,8 @@ IsWholeStage (Taking tx) = IsAssembled tx
 IsWholeStage (Refused e) = Unit {0}
 
 -- what every assembler keeps
-pub record IsSound (tables : List Served) (stage : Stage) : Type 0 where
+pub record IsSound (tables : List Served) (relations : ByOid) (stage : Stage) : Type 0 where
   pub few : length tables < 4294967296
   pub whole : IsWholeStage stage
+  pub narrow : AreNarrow relations
+  pub served : IsServedStage tables stage

@@ -8,6 +8,7 @@ ghost use Rattle.tx_assembler.specs.declared.stage.Stage.TheVariants as stages;
 ghost use Rattle.tx_assembler.specs.Answers.{Gives, next};
 ghost use Rattle.tx_assembler.specs.Rows.{relation_of};
 ghost use Rattle.tx_assembler.specs.Whole.{GivesAssembled};
+ghost use Rattle.tx_assembler.specs.Served.{GivesServed};
 ghost use Rattle.tx_assembler.specs.Stream.{at_start, reopened, HasTaken, TakesOn, BeginsOn, IsLastTaken};
 ghost use Rattle.tx_assembler.specs.Feeding.{opened, begun, committed, changed, related, received, turn_of, may_begin, may_end, same_lsn, IsTurned, IsFed};
 
@@ -43,11 +44,12 @@ impl Model for Assembler {
 
     ghost view = { λ a. record { tables = a.tables; relations = a.relations; last = a.last; stage = a.stage } };
 
-    ghost invariant = { λ a. IsSound a.tables a.stage };
+    ghost invariant = { λ a. IsSound a.tables a.relations a.stage };
 }
 
 impl Assembler {
     /// An assembler before a stream, for these served tables.
+    #[tactic(auto, using(crate::proofs::Served::narrow_none))]
     pub fn new(alloc: Global, tables: ServedTables) -> Result<Assembler, OutOfMemory>
         requires { length tables < 4294967296 }
         ensures start { IfOk result (λ assembler. assembler ≡ at_start tables 0) }
@@ -63,7 +65,7 @@ impl Assembler {
     }
 
     /// The stream begins anew: relations and a half-built transaction are gone, and the LSN of the last transaction stays.
-    #[tactic(auto, using(crate::proofs::Taken::begins_on))]
+    #[tactic(auto, using(crate::proofs::Taken::begins_on, crate::proofs::Served::narrow_none))]
     pub fn reopen(&mut self)
         ensures start { self.new ≡ reopened self.old }
         ensures taken { BeginsOn self.old self.new }
@@ -91,6 +93,7 @@ impl Assembler {
         ensures taken { TakesOn self.old message result self.new }
         ensures fed { IsFed self.old message result self.new }
         ensures whole { IfOk result GivesAssembled }
+        ensures served { IfOk result (GivesServed self.old.tables) }
     {
         self.answer(message)
     }
@@ -99,6 +102,7 @@ impl Assembler {
         requires { Fits message }
         ensures fed { IsFed self.old message result self.new }
         ensures whole { IfOk result GivesAssembled }
+        ensures served { IfOk result (GivesServed self.old.tables) }
     {
         match self.receive(message) {
             Ok(fed) => Ok(fed),
@@ -115,6 +119,7 @@ impl Assembler {
         requires { Fits message }
         ensures turned { IsTurned self.old (turn_of self.old message) result self.new }
         ensures whole { IfOk result GivesAssembled }
+        ensures served { IfOk result (GivesServed self.old.tables) }
     {
         if let Stage::Refused(error) = self.stage {
             return Err(error);
@@ -146,6 +151,7 @@ impl Assembler {
     fn begin(&mut self, lsn: u64, xid: u32) -> Result<Fed, AssembleError>
         ensures turned { IsTurned self.old (begun self.old self.old.stage lsn xid) result self.new }
         ensures whole { IfOk result GivesAssembled }
+        ensures served { IfOk result (GivesServed self.old.tables) }
     {
         check_begin(&self.stage)?;
         self.stage = opened(self.alloc, self.last, lsn, xid);
@@ -155,6 +161,7 @@ impl Assembler {
     fn commit(&mut self, lsn: u64, end: u64) -> Result<Fed, AssembleError>
         ensures turned { IsTurned self.old (committed self.old self.old.stage lsn end) result self.new }
         ensures whole { IfOk result GivesAssembled }
+        ensures served { IfOk result (GivesServed self.old.tables) }
     {
         check_end(&self.stage, lsn)?;
         match mem::replace(&mut self.stage, Stage::Outside) {
@@ -177,8 +184,10 @@ impl Assembler {
         name: Octets,
         columns: ColumnsSent,
     ) -> Result<Fed, AssembleError>
+        requires few { length columns < 65536 }
         ensures turned { IsTurned self.old (next (relation_of oid ns name columns) (related self.old)) result self.new }
         ensures whole { IfOk result GivesAssembled }
+        ensures served { IfOk result (GivesServed self.old.tables) }
     {
         let relation = relation_of(self.alloc, oid, ns, name, columns)?;
         self.relations.put(relation)?;
@@ -189,6 +198,7 @@ impl Assembler {
         requires { Fits message }
         ensures turned { IsTurned self.old (changed self.old self.old.stage kind message) result self.new }
         ensures whole { IfOk result GivesAssembled }
+        ensures served { IfOk result (GivesServed self.old.tables) }
     {
         match &mut self.stage {
             Stage::Outside => {

@@ -1,6 +1,5 @@
-use Rattle.std.proofs.Common.{◌≡◌, ◌++◌, sym, ap, subst, refl, ◌∙◌, List, ℕ, Ok, Err, Result}
+use Rattle.std.proofs.Common.{◌≡◌, ◌++◌, sym, ap, subst, refl, ◌∙◌}
 use Rattle.std.proofs.lemmas.Result.{err_from_is_err_and}
-use Rattle.pg_dialogue.specs.declared.wire_error.WireError.{WireError}
 use Rattle.pg_dialogue.specs.Dialogue.{Talk}
 use Rattle.pg_dialogue.specs.Links.{is_outside, WritesBy}
 use Rattle.pg_dialogue.proofs.Exits.{memory_writes}

@@ -1,4 +1,4 @@
-use Rattle.std.proofs.Common.{◌≡◌, ◌∙◌}
+use Rattle.std.proofs.Common.{◌∙◌}
 use Rattle.std.proofs.lemmas.Result.{err_from_is_err_and}
 use Rattle.pg_dialogue.proofs.Exits.{written_before}
 use Rattle.pg_dialogue.proofs.dialogue.describe.Goals as goal

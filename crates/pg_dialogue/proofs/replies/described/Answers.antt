@@ -1,4 +1,4 @@
-use Rattle.std.proofs.Common.{ap, ◌∙◌, List, Result, length}
+use Rattle.std.proofs.Common.{ap, ◌∙◌, List, Result}
 use Rattle.shape_base.specs.declared.definition.Column.{Column}
 use Rattle.pg_dialogue.specs.declared.wire_error.WireError.{WireError}
 use Rattle.pg_dialogue.specs.Columns.{next, columns_of}

@@ -1,6 +1,10 @@
-use Rattle.std.proofs.Common.{◌-◌, refl, subst, arith}
+use Rattle.std.proofs.Common.{◌-◌, refl, sym, subst, arith}
+use Rattle.std.specs.Str.{IsUtf8}
+use Rattle.std.specs.Prelude.{slice_range}
 use Rattle.shape_base.specs.declared.page.Page.{Page}
 use Rattle.chunked_log.specs.Chunked.{Chunked}
+use Rattle.chunked_log.proofs.Settling.{all_between}
+use Rattle.chunked_log.proofs.Utf8.{joined_utf8}
 use Rattle.chunked_log.proofs.Paging.{IsMade, count_inside, carried, settled, filled}
 use Rattle.chunked_log.proofs.log.ChunkedLog.cut_page.Goals as goal
 
@@ -33,3 +37,8 @@ returns-clause-settles c = λ entries more held closed. settled c.args.self.now 
 pub returns-clause-filled : goal.returns-clause-filled
 unfolding page
 returns-clause-filled c = λ entries held none. filled c.args.self.now entries c.args.offset c.in-Ok.from c.stop-to.result (page c) held (made c) none
+
+pub returns-clause-utf8 : goal.returns-clause-utf8
+returns-clause-utf8 c =
+    let texts = c.self.inside.log.texts in
+    subst IsUtf8 (sym c.in_ok-inner.ensures) (joined_utf8 (slice_range texts c.in-Ok.from c.stop-to.result.0) (all_between IsUtf8 c.in-Ok.from c.stop-to.result.0 texts c.self.invariant.texts))

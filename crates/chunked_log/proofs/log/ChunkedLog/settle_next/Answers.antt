@@ -14,10 +14,12 @@ invariant_of-self-2 c =
     record {
       cut = c.self.invariant.cut;
       same = c.self.invariant.same;
+      texts = c.self.invariant.texts;
       settled = subst (AreSettled os ts least) (sym c.in_ok-push.ensures.ok)
           (all_with (λ (s : SettledPage). IsSettled os ts least s.after s.page) c.self.inside.settled (record { after = c.end-after.result; page = c.in-Ok.page }) c.self.invariant.settled (record {
             some = omega (arith, c.if-page-eq0.false);
-            stays = λ entries more offsets texts. subst (λ (n : ℕ). Carries c.in-Ok.page (page_of n (entries ++ more) c.end-after.result)) (sym (ap (λ (l : Chunked). l.least) c.self.view_is))
-                (c.in-Ok.ensures.settles entries more (record { offsets = sym (ap (λ (l : Chunked). l.offsets) c.self.view_is) ∙ offsets; texts = sym (ap (λ (l : Chunked). l.texts) c.self.view_is) ∙ texts }) c.if-page.false);
+            utf8 = c.in-Ok.ensures.utf8;
+            stays = λ entries more offsets texts short. subst (λ (n : ℕ). Carries c.in-Ok.page (page_of n (entries ++ more) c.end-after.result)) (sym (ap (λ (l : Chunked). l.least) c.self.view_is))
+                (c.in-Ok.ensures.settles entries more (record { offsets = sym (ap (λ (l : Chunked). l.offsets) c.self.view_is) ∙ offsets; texts = sym (ap (λ (l : Chunked). l.texts) c.self.view_is) ∙ texts; short = short }) c.if-page.false);
           }));
     }

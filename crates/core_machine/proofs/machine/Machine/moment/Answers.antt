@@ -28,7 +28,7 @@ returns-clause-takes c o s h =
     let half = halfway_next o s (at_moment o s now later) (Moment now) (is_late_at o now) (moves o s now later) h.start h.reached (λ v is. is) c.args.self.now.server c.args.self.now.exchanges h.server h.exchanges in
     moved o s now later c.args.self.now _ c.answer_all.new.outs c.in_ok-places.places.items h
     (c.in_ok-places.ensures o s.exchanges h.exchanges (exchanges_rise o s h.reached) (sym h.hold)) h.server
-    (record { clients = h.clients; asks = h.asks; served = h.served; clock = refl; hold = h.hold; defined = h.defined })
+    (record { clients = h.clients; asks = h.asks; served = h.served; clock = refl; hold = h.hold; defined = h.defined }) refl
     (subst (λ (before : List Out). Answered o z (settled_at f c.in_ok-places.places.items s.exchanges) c.args.self.now.server c.answer_all.new.exchanges before c.answer_all.new.outs (texts_at f c.in_ok-places.places.items s.exchanges)) c.new-outs.ensures
     (subst (λ (ps : List ℕ). Answered o z (settled_at f ps s.exchanges) c.args.self.now.server c.answer_all.new.exchanges c.new-outs.result c.answer_all.new.outs (texts_at f ps s.exchanges)) c.as_slice.ensures.value
     (c.in_ok-answer_all.ensures o z s.exchanges half)))

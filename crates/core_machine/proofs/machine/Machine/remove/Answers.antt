@@ -1,4 +1,4 @@
-use Rattle.std.proofs.Common.{◌≡◌, ◌∙◌, true, refl, sym, subst}
+use Rattle.std.proofs.Common.{◌≡◌, ◌∙◌, true, sym, subst}
 use Rattle.shape_base.specs.RegistryHistory.{is_live}
 use Rattle.core_law.specs.Clients.{never}
 use Rattle.core_law.specs.Run.{turn_of, Remove}
@@ -24,7 +24,7 @@ returns-clause-takes c o s h =
     let spares = (c.in_ok-answer_awaiting.ensures).spares in
     removed o s n live c.args.self.now c.answer_awaiting.new.self c.in_ok-answer_awaiting.field-0 h
     (subst (λ v. server.Stands o (without o s n live).server v) (sym (c.in_ok-answer_awaiting.ensures).server) (c.remove.ensures o s.server h.server))
-    (record { clients = spares.clients; asks = spares.asks; clock = spares.clock; hold = spares.hold })
+    (record { clients = spares.clients; asks = spares.asks; clock = spares.clock; hold = spares.hold }) (c.in_ok-answer_awaiting.ensures).lasts
     ((c.in_ok-answer_awaiting.ensures).answered o (next_by o s (Remove n)) s.exchanges half)
 
 pub returns-clause-situated : goal.returns-clause-situated

@@ -33,14 +33,14 @@ returns-clause-takes c o s h =
     either_way (is_long target)
     (λ long. sent_on o s m h n cust at room None (lawful.Refuses codes.HeadTooLong) (long_is o s cust (ap is_long (sym same) ∙ long)) after i c.send.new.outs tt
     (let r = subst (λ (before : List Out). IsRequested o s (request o s false None (lawful.Refuses codes.HeadTooLong) false) m c.send.new.self before c.send.new.outs i) c.new-outs.ensures ((c.in_ok-index.ensures).long long o s h) in
-    record { index_is = r.index_is; server = r.server; exchanges = r.exchanges; outs = r.outs })
+    record { index_is = r.index_is; server = r.server; exchanges = r.exchanges; outs = r.outs; lasts = r.lasts })
     waits spares.asks spares.clock spares.hold)
     (λ short. sent_on o s m h n cust at room (Some (next_target cust)) (next_asked cust) (short_is o s cust (ap is_long (sym same) ∙ short)) after i c.send.new.outs
     (subst (AsksOfTable o) asks.0 (of_table o s m c.in-Some-2.asked h asks.1))
     (let r = subst (λ (a : lawful.Asked). IsRequested o s (request o s false (Some (next_target cust)) a false) m c.send.new.self [] c.send.new.outs i) asks.0
     (subst (λ (t : List ℕ). IsRequested o s (request o s false (Some t) (asked_of c.in-Some-2.asked) false) m c.send.new.self [] c.send.new.outs i) same
     (subst (λ (before : List Out). IsRequested o s (request o s false (Some target) (asked_of c.in-Some-2.asked) false) m c.send.new.self before c.send.new.outs i) c.new-outs.ensures ((c.in_ok-index.ensures).short short o s h))) in
-    record { index_is = r.index_is; server = r.server; exchanges = r.exchanges; outs = r.outs })
+    record { index_is = r.index_is; server = r.server; exchanges = r.exchanges; outs = r.outs; lasts = r.lasts })
     waits spares.asks spares.clock spares.hold))
 
 pub returns-clause-situated : goal.returns-clause-situated

@@ -35,7 +35,7 @@ returns-clause-takes c o s h =
     let half = halfway_next o s (ended o s e n f owned starting) (SnapshotEnded e f) never (ends o s e n f owned starting) h.start h.reached (roles_ended o s e n f owned starting) c.refuse.new.self c.args.self.now.exchanges (c.refuse.ensures o s.server h.server) h.exchanges in
     end o s e n f owned starting c.args.self.now c.answer_awaiting.new.self c.in_ok-answer_awaiting.field-0 h
     (subst (λ v. server.Stands o (ended o s e n f owned starting).server v) (sym (c.in_ok-answer_awaiting.ensures).server) (c.refuse.ensures o s.server h.server))
-    (record { clients = spares.clients; asks = spares.asks; clock = spares.clock; hold = spares.hold })
+    (record { clients = spares.clients; asks = spares.asks; clock = spares.clock; hold = spares.hold }) (c.in_ok-answer_awaiting.ensures).lasts
     (subst (λ (code : ErrorCode). IsAwaitingAnswered o z s.exchanges c.answer_awaiting.new.self n (Some (record { index = e; code = code })) c.in_ok-answer_awaiting.field-0) c.code_of-code.ensures ((c.in_ok-answer_awaiting.ensures).answered o z s.exchanges half)))
 
 pub returns-clause-situated : goal.returns-clause-situated

@@ -29,7 +29,7 @@ returns-in-Some-2 c o s h =
     subst (λ (a : Option Customer). Receipt o s n e a (slice_get s.exchanges e) c.in-Some-2.received after) (sym at)
     (subst (λ (b : Option Exchange). Receipt o s n e (Some cust) b c.in-Some-2.received after) (sym there)
     (subst (λ (g : Option Heard). TookIt o s n e cust x g c.in-Some-2.received after) (sym given)
-    (took_it o s n e cust x k at there given next m after c.in-Some-2.received h is took.1 refl refl refl refl refl))))))
+    (took_it o s n e cust x k at there given next m after c.in-Some-2.received h is took.1 refl refl refl refl refl refl))))))
 
 pub returns : goal.returns
 returns c o s h =

@@ -9,8 +9,8 @@ use Rattle.core_server.specs.Standing.{knows_in}
 use Rattle.core_server.proofs.Texts.{schema_is}
 use Rattle.core_server.proofs.server.Server.page_reply.Goals as goal
 
-pub returns-clause-reply : goal.returns-clause-reply
-returns-clause-reply c = λ part h. c.in_ok-page_reply.ensures part h.inner h.end h.up_to_date
+pub returns : goal.returns
+returns c = λ part h. c.in_ok-page_reply.ensures part h.inner h.end h.up_to_date
     ∙ ap (λ handle. page_reply c.args.ask.now handle (Some c.in_ok-schema.schema) part) c.in_ok-handle.ensures
     ∙ ap (λ text. page_reply c.args.ask.now (in_run c.args.self.now.run c.args.number) (Some text) part)
     (c.in_ok-schema.ensures

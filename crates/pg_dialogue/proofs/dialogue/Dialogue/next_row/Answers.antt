@@ -1,4 +1,3 @@
-use Rattle.std.proofs.Common.{◌≡◌}
 use Rattle.std.proofs.lemmas.Result.{err_from_is_err_and}
 use Rattle.pg_dialogue.proofs.Rows.{row_stops_at, ready_stops_at, is_row}
 use Rattle.pg_dialogue.proofs.dialogue.Dialogue.next_row.Goals as goal

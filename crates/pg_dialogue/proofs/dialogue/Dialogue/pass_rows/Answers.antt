@@ -1,4 +1,4 @@
-use Rattle.std.proofs.Common.{◌≡◌, ◌∙◌, subst, List, Option, Ok, arith}
+use Rattle.std.proofs.Common.{◌∙◌, subst, List, Option, Ok, arith}
 use Rattle.shape_base.specs.declared.value.Value as values
 use Rattle.pg_dialogue.specs.Links.{to_come}
 use Rattle.pg_dialogue.specs.Outcomes.{Continues}

@@ -1,6 +1,5 @@
-use Rattle.std.proofs.Common.{◌≡◌, ◌+◌, ◌-◌, ◌≤◌, ◌++◌, ℕ, List, length, take, sym, ◌∙◌, ap, append_assoc, arith}
+use Rattle.std.proofs.Common.{◌≡◌, ◌+◌, ◌++◌, ℕ, List, length, take, sym, ◌∙◌, ap, append_assoc, arith}
 use Rattle.std.proofs.lemmas.List.{length-take, take-append-le}
-use Rattle.pg_dialogue.specs.Links.{since}
 use Rattle.pg_dialogue.proofs.Filling.{takes_step, since_step}
 use Rattle.pg_dialogue.proofs.inbox.Inbox.fill.Goals as goal
 

@@ -1,8 +1,8 @@
-use Rattle.std.proofs.Common.{◌≡◌, sym, ap, ◌∙◌, arith, List, ℕ, Result, Option, Err, Ok, Some, None, ◌⊎◌}
+use Rattle.std.proofs.Common.{sym, ap, ◌∙◌, arith, ℕ}
 use Rattle.std.proofs.lemmas.Result.{err_from_is_err_and}
 use Rattle.pg_dialogue.specs.declared.wanted.Told.{Told}
-use Rattle.pg_dialogue.specs.Messages.{Said, behind}
-use Rattle.pg_dialogue.specs.Dialogue.{Heard, Met, met, noted}
+use Rattle.pg_dialogue.specs.Messages.{behind}
+use Rattle.pg_dialogue.specs.Dialogue.{Met, noted}
 use Rattle.pg_dialogue.specs.Links.{to_come}
 use Rattle.pg_dialogue.specs.Replies.{reply}
 use Rattle.pg_dialogue.proofs.Filling.{takes_then}

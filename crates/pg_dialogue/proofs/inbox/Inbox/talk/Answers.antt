@@ -1,4 +1,4 @@
-use Rattle.std.proofs.Common.{◌≡◌, ◌∙◌, arith}
+use Rattle.std.proofs.Common.{arith}
 use Rattle.std.proofs.lemmas.Result.{err_from_is_err_and}
 use Rattle.pg_dialogue.specs.Exchanges.{exchange_of}
 use Rattle.pg_dialogue.proofs.Filling.{takes_then}

@@ -1,7 +1,7 @@
 use Rattle.std.proofs.Common.{◌≡◌, ◌++◌, List, false}
 use Rattle.shape_base.specs.declared.served.Served.{Served}
 use Rattle.sync_core.specs.Stream.{Stream}
-use Rattle.sync_core.specs.Streaming.{Stands, AreWhole}
+use Rattle.sync_core.specs.Streaming.{Stands, AreWhole, BringsServed}
 use Rattle.sync_core.proofs.Streams.{Mid}
 use Rattle.sync_core.proofs.stream.Stream.receive_frames.Given as goal
 
@@ -12,4 +12,5 @@ invariant-frames l = record {
   goes : l.self.over ≡ false;
   first : l.fn.self.over ≡ false;
   whole : AreWhole l.brought.txs;
+  served : BringsServed l.fn.self l.brought.txs;
 }

@@ -41,4 +41,5 @@ pub returns-in_ok-refusal-in-Err : goal.returns-in_ok-refusal-in-Err
 returns-in_ok-refusal-in-Err c = record {
   takes = λ tables s fed taken h t. BadFrames c.in-Err.error (refused_frames fed taken c.in-Err.error (c.in_ok-refusal-in-Err.ensures).refusal (pick_more fed taken c.args.self.now.frames t c.next.result c.in-Err.error c.in-Err.is c.next.ensures.refused)) (faulty_one tables s c.in-Err.error c.in_ok-refusal-in-Err.refusal c.args.self.now _ h c.requires refl refl (c.in_ok-refusal-in-Err.ensures).fault);
   whole = tt;
+  served = tt;
 }

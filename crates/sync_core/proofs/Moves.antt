@@ -1,0 +1,123 @@
+-- How a core makes of an event what its machine makes of what that is.
+use Rattle.std.proofs.Common.{◌≡◌, List, [], ◌∷◌, ◌++◌, length, drop, refl, sym, ap, subst, ◌∙◌, Option, None, Some, Result, Ok, Err, OnOk}
+use Rattle.std.proofs.Math.Seq.{drop-append_seam}
+use Rattle.core_events.specs.declared.event.Event.{Event}
+use Rattle.core_events.specs.declared.out.Out.{Out}
+use Rattle.core_events.specs.declared.out.StepError.{StepError}
+use Rattle.core_events.specs.declared.out.StepError.TheVariants as errors
+use Rattle.core_events.specs.declared.out.Unfit.{Unfit}
+use Rattle.core_law.specs.Situation.{Options}
+use Rattle.core_law.specs.Situation as law
+use Rattle.core_law.specs.Clients as turns
+use Rattle.core_law.specs.Run as law_run
+use Rattle.core_law.specs.Run.{Committed, turn_of}
+use Rattle.core_machine.specs.Standing as machines
+use Rattle.core_machine.specs.Turns as machine_turns
+use Rattle.sync_core.specs.declared.stepping.Core.{Core}
+use Rattle.shape_base.specs.declared.served.Served.{Served}
+use Rattle.sync_core.specs.declared.stream.Stream as program
+use Rattle.sync_core.specs.declared.stream.Brought.{Brought}
+use Rattle.sync_core.specs.Stream.{Stream, Fault, anew, commits_of, fault_of, new_fault}
+use Rattle.sync_core.specs.Streaming as streams
+use Rattle.sync_core.specs.Reading.{Reading, Brings, Misfits}
+use Rattle.sync_core.specs.Run.{Situation, Turn, Goes, Stops, IsRead, stream_after, shown_since, refused_since, moved, goes_by, turned}
+use Rattle.sync_core.specs.Core as cores
+use Rattle.sync_core.specs.Core.{Stands, IsSituated, refusal_out, PutsOut, GoesOn, StopsBy, TurnsTo, IsStep, Takes}
+
+pub same_fault : (x : Option Fault) → new_fault x x ≡ None
+same_fault None = refl
+same_fault (Some f) = refl
+
+-- nothing is put out but these where the stream is as it was
+plain_outs : (o : Options) (s : Situation) (e : Event) (next : Situation) (expected : List turns.Out) (now : List Out) → stream_after o.tables s.stream e ≡ s.stream → machine_turns.AreOuts next.core.exchanges expected now
+    → PutsOut (refused_since o.tables s.stream (stream_after o.tables s.stream e)) next expected now
+plain_outs o s e next expected now same are = record {
+  rest = now;
+  is = sym (ap (λ (f : Option Fault). refusal_out f ++ now) (ap (refused_since o.tables s.stream) same ∙ same_fault (fault_of o.tables s.stream)));
+  are = are;
+}
+
+module _ (o : Options) (s : Situation) (e : Event) (old new : Core) (h : Stands o s old) (stream : new.stream ≡ old.stream) (tables : new.tables ≡ old.tables) (same : stream_after o.tables s.stream e ≡ s.stream) where
+  stands_for : (core : law.Situation) → machines.Stands o core new.machine → Stands o (moved o s e core) new
+  stands_for core machine = record {
+    machine = machine;
+    stream = subst (streams.Stands o.tables new.stream) (sym same) (subst (λ st. streams.Stands o.tables st s.stream) (sym stream) h.stream);
+    tables = tables ∙ h.tables;
+    few = h.few;
+  }
+
+  goes : (t : turns.Turn) (now : List Out) → machine_turns.GoesOn o t now new.machine → GoesOn o (goes_by o s e t) now new
+  goes (turns.Goes expected core) now g = (plain_outs o s e (moved o s e core) expected now same g.0, stands_for core g.1)
+  goes (turns.Stops error) now g = g
+
+stops : (o : Options) (s : Situation) (e : Event) (t : turns.Turn) (error : StepError) → t ≡ turns.Stops error → goes_by o s e t ≡ Stops error
+stops o s e t error is = ap (goes_by o s e) is
+
+-- An event that is this for the server and its clients, and nothing for the stream.
+pub lifts : (e : Event) (is : law_run.Event) (old new : Core) (result : Result (List Out) StepError) → machine_turns.Takes old.machine new.machine is result → ((o : Options) (s : Situation) → Stands o s old → IsRead o s e (Brings is))
+    → ((o : Options) (s : Situation) → stream_after o.tables s.stream e ≡ s.stream) → new.stream ≡ old.stream → new.tables ≡ old.tables → Takes old new e result
+lifts e is old new (Ok now) takes read same stream tables = λ o s h. record { reading = Brings is; is = read o s h; turns = goes o s e old new h stream tables (same o s) (turn_of o s.core is) now (takes o s.core h.machine) }
+lifts e is old new (Err errors.OutOfMemory) takes read same stream tables = tt
+lifts e is old new (Err errors.TooManyExchanges) takes read same stream tables = λ o s h. record { reading = Brings is; is = read o s h; turns = stops o s e (turn_of o s.core is) errors.TooManyExchanges (takes o s.core h.machine) }
+lifts e is old new (Err (errors.Unfit cause)) takes read same stream tables = λ o s h. record { reading = Brings is; is = read o s h; turns = stops o s e (turn_of o s.core is) (errors.Unfit cause) (takes o s.core h.machine) }
+
+-- An event that does not fit.
+pub misfits : (e : Event) (cause : Unfit) (old new : Core) → ((o : Options) (s : Situation) → Stands o s old → IsRead o s e (Misfits cause)) → Takes old new e (Err (errors.Unfit cause))
+misfits e cause old new read = λ o s h. record { reading = Misfits cause; is = read o s h; turns = refl }
+
+-- ---- the core stands for some situation
+
+goes_situated : (o : Options) (t : Turn) (now : List Out) (new : Core) → GoesOn o t now new → IsSituated new
+goes_situated o (Goes refusal expected next) now new g = record { options = o; situation = next; stands = g.1 }
+goes_situated o (Stops error) now new g = absurd g
+
+pub situated : (e : Event) (old new : Core) (result : Result (List Out) StepError) → Takes old new e result → IsSituated old → OnOk result (IsSituated new)
+situated e old new (Ok now) takes w = let step = takes w.options w.situation w.stands in goes_situated w.options (turned w.options w.situation e step.reading) now new step.turns
+situated e old new (Err error) takes w = tt
+
+-- ---- the stream
+
+-- It begins anew.
+pub anew_situated : (old new : Core) → IsSituated old → new.machine ≡ old.machine → new.tables ≡ old.tables → ((tables : List Served) (s : Stream) → streams.Stands tables old.stream s → streams.Stands tables new.stream (anew s)) → IsSituated new
+anew_situated old new w machine tables begins = let s = w.situation in record {
+  options = w.options;
+  situation = record { core = s.core; stream = anew s.stream; pieces = s.pieces };
+  stands = record {
+    machine = subst (machines.Stands w.options s.core) (sym machine) w.stands.machine;
+    stream = begins w.options.tables s.stream w.stands.stream;
+    tables = tables ∙ w.stands.tables;
+    few = w.stands.few;
+  };
+}
+
+module _ (o : Options) (s : Situation) (e : Event) (old new : Core) (mid : program.Stream) (b : Brought) (h : Stands o s old) (came : streams.Receives o.tables s.stream (stream_after o.tables s.stream e) b mid) (stream : new.stream ≡ mid) (tables : new.tables ≡ old.tables) where
+  shown_now : shown_since o.tables s.stream (stream_after o.tables s.stream e) ≡ b.txs
+  shown_now = ap (drop (length (commits_of o.tables s.stream))) came.commits ∙ drop-append_seam (commits_of o.tables s.stream) b.txs
+
+  brought_goes : (t : turns.Turn) (now : List Out) → cores.BringsOn o t b now new.machine → GoesOn o (goes_by o s e t) now new
+  brought_goes (turns.Goes expected core) now g = (
+    record { rest = g.rest; is = g.is ∙ ap (λ f. refusal_out f ++ g.rest) (sym came.fault); are = g.are },
+    record { machine = g.stands; stream = subst (λ st. streams.Stands o.tables st (stream_after o.tables s.stream e)) (sym stream) came.stands; tables = tables ∙ h.tables; few = h.few },
+  )
+  brought_goes (turns.Stops error) now g = absurd g
+
+-- A record of the stream: its commits come to the server, and its refusal is put out first.
+pub streams_on : (e : Event) (old new : Core) (mid : program.Stream) (b : Brought) (result : Result (List Out) StepError)
+    → ((o : Options) (s : Situation) (r : Reading) → r ≡ Brings (Committed (shown_since o.tables s.stream (stream_after o.tables s.stream e))) → IsRead o s e r)
+    → ((o : Options) (s : Situation) → Stands o s old → streams.Receives o.tables s.stream (stream_after o.tables s.stream e) b mid) → cores.HasBrought old.machine new.machine b result → new.stream ≡ mid → new.tables ≡ old.tables → Takes old new e result
+streams_on e old new mid b (Ok now) read came brought stream tables = λ o s h. record {
+  reading = Brings (Committed b.txs);
+  is = read o s (Brings (Committed b.txs)) (ap (λ txs. Brings (Committed txs)) (sym (shown_now o s e old new mid b h (came o s h) stream tables)));
+  turns = brought_goes o s e old new mid b h (came o s h) stream tables (turn_of o s.core (Committed b.txs)) now (brought o s.core h.machine);
+}
+streams_on e old new mid b (Err errors.OutOfMemory) read came brought stream tables = tt
+streams_on e old new mid b (Err errors.TooManyExchanges) read came brought stream tables = λ o s h. record {
+  reading = Brings (Committed b.txs);
+  is = read o s (Brings (Committed b.txs)) (ap (λ txs. Brings (Committed txs)) (sym (shown_now o s e old new mid b h (came o s h) stream tables)));
+  turns = stops o s e (turn_of o s.core (Committed b.txs)) errors.TooManyExchanges (brought o s.core h.machine);
+}
+streams_on e old new mid b (Err (errors.Unfit cause)) read came brought stream tables = λ o s h. record {
+  reading = Brings (Committed b.txs);
+  is = read o s (Brings (Committed b.txs)) (ap (λ txs. Brings (Committed txs)) (sym (shown_now o s e old new mid b h (came o s h) stream tables)));
+  turns = stops o s e (turn_of o s.core (Committed b.txs)) (errors.Unfit cause) (brought o s.core h.machine);
+}

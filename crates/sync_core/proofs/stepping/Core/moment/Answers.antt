@@ -1,0 +1,11 @@
+use Rattle.std.proofs.Common.{refl}
+use Rattle.core_events.specs.declared.event.Event.TheVariants as events
+use Rattle.core_law.specs.Run.{Moment}
+use Rattle.sync_core.proofs.Moves.{lifts, situated}
+use Rattle.sync_core.proofs.stepping.Core.moment.Goals as goal
+
+pub returns-clause-takes : goal.returns-clause-takes
+returns-clause-takes c = lifts (events.Moment c.args.now) (Moment c.args.now) c.args.self.now (record { alloc = c.args.self.now.alloc; machine = c.moment.new.self; stream = c.args.self.now.stream; tables = c.args.self.now.tables }) c.moment.result c.moment.ensures.takes (λ o s h. refl) (λ o s. refl) refl refl
+
+pub returns-clause-situated : goal.returns-clause-situated
+returns-clause-situated c = situated (events.Moment c.args.now) c.args.self.now (record { alloc = c.args.self.now.alloc; machine = c.moment.new.self; stream = c.args.self.now.stream; tables = c.args.self.now.tables }) c.moment.result (returns-clause-takes c) c.requires
