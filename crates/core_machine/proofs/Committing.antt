@@ -33,7 +33,7 @@ use Rattle.core_machine.specs.Standing.{Stands}
 use Rattle.core_machine.specs.Turns.{GoesOn}
 use Rattle.core_machine.proofs.Changing.{awaiting_any_settles}
 use Rattle.core_machine.proofs.Quiet.{quiet_here, quiet_then}
-use Rattle.core_machine.proofs.Removing.{next_by, around, change_same}
+use Rattle.core_machine.proofs.Removing.{next_by, goes_by, around, change_same}
 use Rattle.core_machine.proofs.Requests.{refused_as}
 use Rattle.core_machine.proofs.Lasts.{lasts_committed}
 use Rattle.core_machine.proofs.Short.{short_logs}
@@ -120,12 +120,7 @@ module _ (o : Options) (s : Situation) (txs : List Tx) where
 
   pub committed : (m m' : Machine) (told : List ℕ) (now : List Out) → Stands o s m → AreTaken o s.server txs m'.server told → SparesClients m m' → m'.lasts ≡ m.lasts → AreAnswered o (next_by o s (Committed txs)) s.exchanges m' (awaits_any told) None now
       → GoesOn o (turn_of o s (Committed txs)) now m'
-  committed m m' told now h taken spares lasts aw =
-      let settled_ = settles o s with_commits never (answered_in o with_commits.server false None) aw.places s.exchanges
-      (awaiting_any_settles others_wait o s with_commits (Committed txs) told 0 None aw.places h.start h.reached h.of_tables refl (change_same (refused_as with_commits.server None) s.exchanges 0 (λ x. refl)) aw.await (λ none. cc) taken.quiet) in
-      let a = around o s m m' h spares in
-      goes replies_say o s with_commits never m' now h.start (reached_next o s (Committed txs) h.reached) (short_logs o with_commits.server m'.server taken.stands) h.said h.of_tables
-      (record { clients = a.clients; asks = a.asks; served = a.served; clock = a.clock; hold = a.hold; defined = a.defined }) taken.stands
-      (subst (λ (ys : List Exchange). exchanges.Stands m'.exchanges ys) (sym settled_.same) aw.halfway.exchanges)
-      (aw.outs_are ∙ settled_.texts)
+  committed m m' told now h taken spares lasts aw = goes_by o s with_commits (Committed txs) never refl h.start h.reached (λ v is. is) m' now false None aw.places
+      (awaiting_any_settles others_wait o s with_commits (Committed txs) told 0 None aw.places h.start h.reached h.of_tables refl (change_same (refused_as with_commits.server None) s.exchanges 0 (λ x. refl)) aw.await (λ none. cc) taken.quiet)
+      h.said h.of_tables (around o s m m' h spares) taken.stands aw.halfway.exchanges aw.outs_are
       (ap (λ l. l.items) lasts ∙ h.lasts ∙ sym (lasts_committed o s txs h.start h.reached))

@@ -26,7 +26,7 @@ use Rattle.core_machine.proofs.Exchanging.{all_more}
 use Rattle.core_machine.proofs.Short.{short_logs}
 use Rattle.core_machine.proofs.Receiving.{asked_in, map_kept}
 use Rattle.core_machine.proofs.Requests.{refused_as, request_is, comes}
-use Rattle.core_machine.proofs.Turning.{IsSaid, said_more, said_refused, goes}
+use Rattle.core_machine.proofs.Turning.{Around, IsSaid, said_more, said_refused, goes}
 use Rattle.core_machine.proofs.Removing.{around}
 
 -- what is asked for is of a table that is served and defined
@@ -77,18 +77,10 @@ came_in o s m m' target asked close i now h of room r spares =
     let t = request o s true target asked close in
     let turn = comes o s target asked close room in
     let reached : IsReached o (settled o never t) = subst (IsReached o) (ap (next_of s) turn) (reached_next o s (RequestCame target asked close) h.reached) in
-    let a = around o s m m' h spares in
     let short = short_logs o t.server m'.server r.server in
     subst (λ (u : Turn). GoesOn o u now m') (sym turn)
     (goes replies_say o s t never m' now h.start reached short (said_now o s m h asked true target close (settled o never t) refl reached short) (tables_now o s m h asked true target close of)
-    (record {
-      clients = subst (λ cs. clients.Stands m'.clients cs) (sym (same_customers o s m h asked true target close)) a.clients;
-      asks = a.asks ∙ ap (λ (cs : List Customer). map asked_in cs) (sym (same_customers o s m h asked true target close));
-      served = a.served;
-      clock = a.clock ∙ sym (same_clock o s m h asked true target close);
-      hold = a.hold;
-      defined = a.defined;
-    })
+    (subst (λ (clock : ℕ). Around o t.customers clock m') (sym (same_clock o s m h asked true target close)) (subst (λ (cs : List Customer). Around o cs s.clock m') (sym (same_customers o s m h asked true target close)) (around o s m m' h spares)))
     r.server r.exchanges r.outs r.lasts)
 
 -- ---- a client's
@@ -116,7 +108,7 @@ module _ (o : Options) (s : Situation) (m : Machine) (h : Stands o s m) (n : ℕ
         clients = subst (λ cs. clients.Stands m'.clients (change_at (waits_at (length s.exchanges)) cs n)) (sym same) (subst (λ k. clients.Stands m'.clients (change_at (waits_at k) s.customers n)) r.index_is clients_);
         asks = ap (λ a. map first_asked a.items) asks ∙ h.asks ∙ sym (map_kept (waits_at (length s.exchanges)) s.customers n (λ d. refl)) ∙ ap (λ (cs : List Customer). map asked_in (change_at (waits_at (length s.exchanges)) cs n)) (sym same);
         served = subst (λ a. AreServed o.tables a.items) (sym asks) h.served;
-        clock = clock ∙ h.clock ∙ sym (same_clock o s m h asked false target false);
+        clock_is = clock ∙ h.clock ∙ sym (same_clock o s m h asked false target false);
         hold = hold ∙ h.hold;
         defined = h.defined;
       })

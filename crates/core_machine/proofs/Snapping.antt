@@ -52,7 +52,7 @@ use Rattle.core_machine.specs.Turns.{GoesOn}
 use Rattle.core_machine.proofs.Changing.{awaiting_settles}
 use Rattle.core_machine.proofs.Lasts.{lasts_dropped, lasts_redefined, lasts_started}
 use Rattle.core_machine.proofs.Quiet.{TellsNothing, not_equal, removes_other, shape_apart, quiet_then, quiet_event, quiet_dropped, quiet_redefined}
-use Rattle.core_machine.proofs.Removing.{next_by, server_next, reached_settled, halfway_next, around, change_same, roles_unchanged, tables_changed, owner_role, none_under_way}
+use Rattle.core_machine.proofs.Removing.{next_by, halfway_next, with_server, happened, roles_refused, none_under_way}
 use Rattle.core_machine.proofs.Requests.{refused_as}
 use Rattle.core_machine.proofs.Short.{short_logs}
 use Rattle.core_machine.proofs.Turning.{said_refused, said_changed, settles, goes}
@@ -158,57 +158,6 @@ quiet_started o v n x snapshot m other = pick (drop_of x.reader o.limits (x.even
     pick : (d : Option Cause) → IsAsBefore v (started_by w n d) m
     pick None = quiet_then v w (with_registry w (Ready n)) m (quiet_snapped v n m snapshot other) (quiet_event w (Ready n) m (readies_other n m other))
     pick (Some cause) = quiet_then v w (with_registry w (Removed n cause)) m (quiet_snapped v n m snapshot other) (quiet_event w (Removed n cause) m (removes_other n m cause other))
-
--- ---- something happens to a number, and no exchange is refused
-
-module _ (o : Options) (s : Situation) (ev : Event) (n : ℕ) (w : Server) where
-  abbrev pub with_server : Situation
-  with_server = record s { server = w }
-
-  pub happened : (m m' : Machine) (now : List Out) → turn_of o s ev ≡ finished o never s with_server → ((k : ℕ) → (n ≡ k → ⊥) → IsAsBefore s.server w k) → Stands o s m → server.Stands o w m'.server → SparesClients m m' → m'.lasts.items ≡ lasts_of w
-      → IsAwaitingAnswered o (next_by o s ev) s.exchanges m' n None now → GoesOn o (turn_of o s ev) now m'
-  happened m m' now turn quiet h stands spares lasts aw =
-      let same : (next_by o s ev).server ≡ w = server_next o s with_server ev never turn h.start h.reached (λ v is. is) in
-      let settled_ = settles o s with_server never (answered_in o w false None) aw.places s.exchanges
-      (awaiting_settles others_wait o s with_server ev n 0 None aw.places h.start h.reached h.of_tables same (change_same (refused_as w None) s.exchanges 0 (λ x. refl)) aw.await (λ none. cc) quiet) in
-      let a = around o s m m' h spares in
-      subst (λ (u : Turn). GoesOn o u now m') (sym turn)
-      (goes replies_say o s with_server never m' now h.start (reached_settled o s with_server ev never turn h.start h.reached (λ v is. is)) (short_logs o w m'.server stands) h.said h.of_tables
-      (record { clients = a.clients; asks = a.asks; served = a.served; clock = a.clock; hold = a.hold; defined = a.defined }) stands
-      (subst (λ (ys : List Exchange). exchanges.Stands m'.exchanges ys) (sym settled_.same) (subst (λ (v : Server). exchanges.Stands m'.exchanges (settled_at (answered_in o v false None) aw.places s.exchanges)) same aw.halfway.exchanges))
-      (aw.outs_are ∙ ap (λ (v : Server). texts_at (answered_in o v false None) aw.places s.exchanges) same ∙ settled_.texts)
-      lasts)
-
--- ---- a snapshot is refused
-
-module _ (o : Options) (s : Situation) (ev : Event) (e n : ℕ) (code : ErrorCode) (d : Option TableDef) where
-  abbrev pub refused_to : Situation
-  refused_to = snapshot_ends s e n code d
-
-  pub roles_refused : (v : Server) → AreGivenNumbers v refused_to.exchanges → AreGivenNumbers v s.exchanges
-  roles_refused v h = roles_unchanged (refused_at refused_to.server code) v s.exchanges e (λ x. refl) h
-
-  quiet_refused : (k : ℕ) → (n ≡ k → ⊥) → IsAsBefore s.server refused_to.server k
-  quiet_refused k other = quiet_then s.server (dropped s.server n SnapshotFailed) refused_to.server k (quiet_dropped s.server n k SnapshotFailed other) (quiet_redefined (dropped s.server n SnapshotFailed) d k)
-
-  pub refused_on : (m m' : Machine) (now : List Out) → owned_by (slice_get s.exchanges e) ≡ Some n → turn_of o s ev ≡ finished o never s refused_to → Stands o s m → server.Stands o refused_to.server m'.server → SparesClients m m' → m'.lasts ≡ m.lasts
-      → IsAwaitingAnswered o (next_by o s ev) s.exchanges m' n (refusal_by e (Some code)) now → GoesOn o (turn_of o s ev) now m'
-  refused_on m m' now owned turn h stands spares lasts aw =
-      let r = refusal_by e (Some code) in
-      let same : (next_by o s ev).server ≡ refused_to.server = server_next o s refused_to ev never turn h.start h.reached roles_refused in
-      let reached = reached_settled o s refused_to ev never turn h.start h.reached roles_refused in
-      let short = short_logs o refused_to.server m'.server stands in
-      let a = around o s m m' h spares in
-      let settled_ = settles o s refused_to never (answered_in o refused_to.server false r) aw.places s.exchanges
-      (awaiting_settles others_wait o s refused_to ev n e (Some code) aw.places h.start h.reached h.of_tables same refl aw.await (λ some. owner_role (slice_get s.exchanges e) n owned) quiet_refused) in
-      subst (λ (u : Turn). GoesOn o u now m') (sym turn)
-      (goes replies_say o s refused_to never m' now h.start reached short
-      (said_changed (refused_at refused_to.server code) s.exchanges e (λ x is. said_refused replies_say o (settled o never refused_to) h.start reached short code x is) h.said)
-      (tables_changed o (refused_at refused_to.server code) s.exchanges e (λ x. refl) h.of_tables)
-      (record { clients = a.clients; asks = a.asks; served = a.served; clock = a.clock; hold = a.hold; defined = a.defined }) stands
-      (subst (λ (ys : List Exchange). exchanges.Stands m'.exchanges ys) (sym settled_.same) (subst (λ (v : Server). exchanges.Stands m'.exchanges (settled_at (answered_in o v false r) aw.places s.exchanges)) same aw.halfway.exchanges))
-      (aw.outs_are ∙ ap (λ (v : Server). texts_at (answered_in o v false r) aw.places s.exchanges) same ∙ settled_.texts)
-      (ap (λ l. l.items) lasts ∙ h.lasts ∙ sym (lasts_redefined (dropped s.server n SnapshotFailed) d ∙ lasts_dropped s.server n SnapshotFailed)))
 
 -- ---- the calls
 

@@ -75,11 +75,11 @@ pub record Settling (o : Options) (s t : Situation) (late : Exchange → Bool) (
   pub before : texts_now 0 xs (settled_at f places xs) ≡ texts_now 0 s.exchanges (settled_at f places xs)
 
 -- what of the machine stands already
-pub record Around (o : Options) (t : Situation) (m : Machine) : Type 0 where
-  pub clients : clients.Stands m.clients t.customers
-  pub asks : map first_asked m.asks.items ≡ map (λ (c : Customer). c.asked) t.customers
+pub record Around (o : Options) (customers : List Customer) (clock : ℕ) (m : Machine) : Type 0 where
+  pub clients : clients.Stands m.clients customers
+  pub asks : map first_asked m.asks.items ≡ map (λ (c : Customer). c.asked) customers
   pub served : AreServed o.tables m.asks.items
-  pub clock : m.clock ≡ t.clock
+  pub clock_is : m.clock ≡ clock
   pub hold : m.hold ≡ o.limits.hold
   pub defined : length o.catalog ≡ length o.tables
 
@@ -102,7 +102,7 @@ settles o s t late f places xs settling =
       texts = texts_are f places xs settling.sorted settling.among settling.inside ∙ settling.before ∙ ap (texts_now 0 s.exchanges) (sym same);
     }
 
-pub goes : (say : RepliesSay) (o : Options) (s t : Situation) (late : Exchange → Bool) (m : Machine) (outs : List Out) → IsStart o → IsReached o (settled o late t) → HaveShortLogs t.server → AreSaid t.exchanges → AreOfTables o t.exchanges → Around o t m
+pub goes : (say : RepliesSay) (o : Options) (s t : Situation) (late : Exchange → Bool) (m : Machine) (outs : List Out) → IsStart o → IsReached o (settled o late t) → HaveShortLogs t.server → AreSaid t.exchanges → AreOfTables o t.exchanges → Around o t.customers t.clock m
     → server.Stands o t.server m.server → exchanges.Stands m.exchanges (settled o late t).exchanges → outs ≡ texts_now 0 s.exchanges (settled o late t).exchanges → m.lasts.items ≡ lasts_of t.server → GoesOn o (finished o late s t) outs m
 goes say o s t late m outs start reached short said of_tables around server exchanges texts lasts =
     let next = settled o late t in (
@@ -115,7 +115,7 @@ goes say o s t late m outs start reached short said of_tables around server exch
         clients = around.clients;
         asks = around.asks;
         served = around.served;
-        clock = around.clock;
+        clock = around.clock_is;
         hold = around.hold;
         lasts = lasts;
         said = said_settled say o next start reached short late t.exchanges said;

@@ -1,5 +1,5 @@
 -- What is left once the exchanges that await numbers were answered.
-use Rattle.std.specs.Prelude.{◌≡◌, ℕ, Bool, false, ◌&&◌, List, Option, None, Some}
+use Rattle.std.specs.Prelude.{◌≡◌, ℕ, Bool, false, ◌&&◌, List, [], Option, None, Some}
 use Rattle.core_events.specs.declared.out.Out.{Out}
 use Rattle.core_law.specs.Situation.{Options, Exchange, Situation}
 use Rattle.core_law.specs.Waiting.{awaited}
@@ -8,7 +8,7 @@ use Rattle.core_exchanges.specs.Standing.{ArePlaces, is_open, awaits}
 use Rattle.core_machine.specs.declared.answering.Refusal.{Refusal}
 use Rattle.core_machine.specs.declared.machine.Machine.{Machine}
 use Rattle.core_machine.specs.Replying.{answered_in}
-use Rattle.core_machine.specs.Answering.{Halfway, settled_at, texts_at}
+use Rattle.core_machine.specs.Answering.{Halfway, AnswersAll, settled_at, texts_at}
 
 -- it is one of the numbers
 abbrev pub is_one_of : List ℕ → Option ℕ → Bool
@@ -18,6 +18,10 @@ is_one_of numbers (Some n) = is_among n numbers
 -- it has no reply, and awaits one of the numbers
 abbrev pub awaits_any : List ℕ → Exchange → Bool
 awaits_any numbers x = is_open x && is_one_of numbers (awaited x.asked x.role)
+
+-- Those in these places were answered, for whatever the server and the exchanges stood.
+abbrev pub AnswersAt : Machine → Machine → List ℕ → Bool → Option Refusal → List Out → Type 0
+AnswersAt old new places late r outs = (o : Options) (s : Situation) (xs : List Exchange) → AnswersAll o s xs old.server r old.exchanges [] places late new.exchanges outs
 
 -- those that pass a test were answered
 pub record AreAnswered (o : Options) (s : Situation) (xs : List Exchange) (new : Machine) (test : Exchange → Bool) (r : Option Refusal) (outs : List Out) : Type 0 where

@@ -2,7 +2,7 @@
 ghost use Rattle.std.specs.Prelude.{◌≡◌, IfOk, OnOk};
 ghost use Rattle.core_law.specs.Run.{Remove, Moment};
 ghost use Rattle.core_machine.specs.Answering.{CanAnswer};
-ghost use Rattle.core_machine.specs.Awaiting.{AnswersAwaiting};
+ghost use Rattle.core_machine.specs.Awaiting.{AnswersAt, AnswersAwaiting};
 ghost use Rattle.core_machine.specs.Opening.{SparesClients};
 ghost use Rattle.core_machine.specs.Standing.{IsSituated};
 ghost use Rattle.core_machine.specs.Turns.{Takes};
@@ -13,6 +13,32 @@ use core_events::{Outs, StepError, Unfit};
 use shape_base::OutOfMemory;
 
 impl Machine {
+    /// The exchanges in these places have their replies, late or not, where there are any now.
+    pub(crate) fn answer_at(
+        &mut self,
+        places: &[u32],
+        late: bool,
+        refusal: &Option<Refusal>,
+    ) -> Result<Outs, OutOfMemory>
+        requires { CanAnswer self.old.server self.old.exchanges }
+        ensures answered { IfOk result (λ outs. AnswersAt self.old self.new places.now late refusal.now outs) }
+        ensures spares { OnOk result (SparesClients self.old self.new) }
+        ensures server { OnOk result (self.new.server ≡ self.old.server) }
+        ensures lasts { OnOk result (self.new.lasts ≡ self.old.lasts) }
+    {
+        let mut outs = Outs::new(self.alloc);
+        answer_all(
+            self.alloc,
+            &self.server,
+            &mut self.exchanges,
+            places,
+            late,
+            refusal,
+            &mut outs,
+        )?;
+        Ok(outs)
+    }
+
     /// The exchanges that await a number have their replies, where there are any now.
     pub(crate) fn answer_awaiting(
         &mut self,
@@ -26,17 +52,7 @@ impl Machine {
         ensures lasts { OnOk result (self.new.lasts ≡ self.old.lasts) }
     {
         let places = self.exchanges.awaiting(number)?;
-        let mut outs = Outs::new(self.alloc);
-        answer_all(
-            self.alloc,
-            &self.server,
-            &mut self.exchanges,
-            places.as_slice(),
-            false,
-            refusal,
-            &mut outs,
-        )?;
-        Ok(outs)
+        self.answer_at(places.as_slice(), false, refusal)
     }
 
     /// A number is dropped, where it is live.
@@ -64,16 +80,6 @@ impl Machine {
         }
         self.clock = now;
         let places = self.exchanges.late(now, self.hold)?;
-        let mut outs = Outs::new(self.alloc);
-        answer_all(
-            self.alloc,
-            &self.server,
-            &mut self.exchanges,
-            places.as_slice(),
-            true,
-            &None,
-            &mut outs,
-        )?;
-        Ok(outs)
+        Ok(self.answer_at(places.as_slice(), true, &None)?)
     }
 }

@@ -15,7 +15,6 @@ ghost use Rattle.core_machine.specs.Opening.{SparesClients};
 ghost use Rattle.core_machine.specs.Standing.{IsSituated};
 ghost use Rattle.core_machine.specs.Turns.{Takes};
 
-use crate::answering::answer_all;
 use crate::machine::Machine;
 use core_events::{Outs, StepError};
 use core_exchanges::Exchanges;
@@ -106,17 +105,7 @@ impl Machine {
         ensures lasts { OnOk result (self.new.lasts ≡ self.old.lasts) }
     {
         let places = awaiting_any(self.alloc, &self.exchanges, numbers)?;
-        let mut outs = Outs::new(self.alloc);
-        answer_all(
-            self.alloc,
-            &self.server,
-            &mut self.exchanges,
-            places.as_slice(),
-            false,
-            &None,
-            &mut outs,
-        )?;
-        Ok(outs)
+        self.answer_at(places.as_slice(), false, &None)
     }
 
     /// The stream shows commits, which come together. Each is taken that is no repeat of one before it, and then the exchanges are answered that await a number of which an answer can tell.

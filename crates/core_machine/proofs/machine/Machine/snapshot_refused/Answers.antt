@@ -12,8 +12,8 @@ use Rattle.core_machine.specs.declared.answering.Refusal.{Refusal}
 use Rattle.core_machine.specs.Awaiting.{IsAwaitingAnswered}
 use Rattle.core_machine.specs.Replying.{refusal_of}
 use Rattle.core_machine.proofs.NewDefinitions.{is_new}
-use Rattle.core_machine.proofs.Removing.{next_by, under_way_is}
-use Rattle.core_machine.proofs.Snapping.{event_there, turn_refused, refused_halfway, refused_on, none_refused}
+use Rattle.core_machine.proofs.Removing.{next_by, refused_on, under_way_is}
+use Rattle.core_machine.proofs.Snapping.{event_there, turn_refused, refused_halfway, none_refused}
 use Rattle.core_machine.proofs.Turning.{situated}
 use Rattle.core_machine.proofs.machine.Machine.snapshot_refused.Goals as goal
 
