@@ -12,23 +12,21 @@ use Rattle.std.proofs.lemmas.List.{drop_more}
 use Rattle.shape_base.specs.declared.change.Tx.{Tx}
 use Rattle.shape_base.specs.RegistryHistory.{last_lsn}
 use Rattle.core_events.specs.declared.out.Out.{Out}
-use Rattle.core_law.specs.Situation.{Options, Server, Exchange, Situation}
+use Rattle.core_law.specs.Situation.{Options, Server, Situation}
 use Rattle.core_law.specs.Steps.{after_commit, unless_repeat, after_commits}
 use Rattle.core_law.specs.Clients.{never}
 use Rattle.core_law.specs.Run.{Committed, turn_of}
 use Rattle.core_law.specs.Waiting.{IsAsBefore}
-use Rattle.core_law.proofs.Lemmas.{reached_next, others_wait, replies_say}
+use Rattle.core_law.proofs.Lemmas.{others_wait}
 use Rattle.core_server.specs.declared.server.Server.{Server as KeptServer}
 use Rattle.core_server.specs.Committing.{IsTold}
 use Rattle.core_server.specs.Standing as server
 use Rattle.core_exchanges.specs.Indexing.{is_among}
-use Rattle.core_exchanges.specs.Standing as exchanges
 use Rattle.core_exchanges.proofs.Lemmas.{among_keys}
 use Rattle.core_machine.specs.declared.machine.Machine.{Machine}
 use Rattle.core_machine.specs.Awaiting.{awaits_any, AreAnswered}
 use Rattle.core_machine.specs.Committing.{AreTakable, IsQuietBut, IsTaken, AreTaken}
 use Rattle.core_machine.specs.Opening.{SparesClients}
-use Rattle.core_machine.specs.Replying.{answered_in}
 use Rattle.core_machine.specs.Standing.{Stands}
 use Rattle.core_machine.specs.Turns.{GoesOn}
 use Rattle.core_machine.proofs.Changing.{awaiting_any_settles}
@@ -36,8 +34,6 @@ use Rattle.core_machine.proofs.Quiet.{quiet_here, quiet_then}
 use Rattle.core_machine.proofs.Removing.{next_by, goes_by, around, change_same}
 use Rattle.core_machine.proofs.Requests.{refused_as}
 use Rattle.core_machine.proofs.Lasts.{lasts_committed}
-use Rattle.core_machine.proofs.Short.{short_logs}
-use Rattle.core_machine.proofs.Turning.{settles, goes}
 
 -- ---- numbers and places
 

@@ -24,7 +24,7 @@ use Rattle.core_law.specs.Reached.{WasGiven}
 use Rattle.core_law.proofs.Lemmas.{roles_are_given}
 use Rattle.core_law.proofs.Whole.{after_extends}
 use Rattle.core_machine.specs.Faults.{if_starting, under_way}
-use Rattle.core_machine.specs.Snapshots.{UnderWayIsKnown, EndsFor, Came, Ended, SnapshotsEndOnce}
+use Rattle.core_machine.specs.Snapshots.{UnderWayIsKnown, Came, Ended, SnapshotsEndOnce}
 use Rattle.core_machine.proofs.Answers.{all_at}
 use Rattle.core_machine.proofs.Quiet.{quiet_redefined}
 use Rattle.core_machine.proofs.Snapping.{live, unready, not_removed}

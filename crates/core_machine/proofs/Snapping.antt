@@ -5,8 +5,6 @@ use Rattle.std.specs.Bool.{if◌then◌else◌}
 use Rattle.std.specs.FinMap as fin
 use Rattle.std.proofs.lemmas.Bool.{and_parts}
 use Rattle.shape_base.specs.declared.cause.Cause.{Cause}
-use Rattle.shape_base.specs.declared.cause.Cause.TheVariants.{SnapshotFailed}
-use Rattle.shape_base.specs.declared.definition.TableDef.{TableDef}
 use Rattle.shape_base.specs.declared.registry_event.RegistryEvent.{RegistryEvent}
 use Rattle.shape_base.specs.declared.registry_event.RegistryEvent.TheVariants.{Ready, Removed}
 use Rattle.shape_base.specs.Tables.{Table}
@@ -22,17 +20,15 @@ use Rattle.shape_snapshot.specs.declared.faults.SnapError.{SnapError}
 use Rattle.shape_snapshot.specs.declared.faults.SnapError.TheVariants.{BadSnapshot, DefinitionChanged, Stale, WrongWidth, BadValue, NullKey, DuplicateKey, LogFull, OutOfMemory}
 use Rattle.shape_snapshot.specs.Refusals as snap
 use Rattle.pg_dialogue.specs.declared.login.SnapHead.{SnapHead}
-use Rattle.http_edge.specs.declared.error_code.ErrorCode.{ErrorCode}
 use Rattle.core_events.specs.declared.out.Out.{Out}
 use Rattle.core_events.specs.declared.out.Unfit.TheVariants as unfit
 use Rattle.core_events.specs.declared.out.StepError.TheVariants as errors
-use Rattle.core_law.specs.Situation.{Options, Shape, Server, shape_at, log_of_shape, registry_start, Exchange, Situation}
-use Rattle.core_law.specs.Steps.{Fault, with_event, with_registry, with_shape_event, settled, dropped, refused_at, owned_by, refusal_of_snapshot, snapshot_ends, started_by, started, snapped}
-use Rattle.core_law.specs.Clients.{Turn, Stops, finished, never, is_unfit}
+use Rattle.core_law.specs.Situation.{Options, Shape, Server, shape_at, log_of_shape, registry_start, Situation}
+use Rattle.core_law.specs.Steps.{Fault, with_event, with_registry, with_shape_event, owned_by, refusal_of_snapshot, snapshot_ends, started_by, started, snapped}
+use Rattle.core_law.specs.Clients.{Stops, finished, never, is_unfit}
 use Rattle.core_law.specs.Run as run
 use Rattle.core_law.specs.Run.{Event, SnapshotCame, SnapshotEnded, turn_of}
 use Rattle.core_law.specs.Waiting.{IsAsBefore}
-use Rattle.core_law.proofs.Lemmas.{others_wait, replies_say}
 use Rattle.core_server.specs.declared.server.Server.{Server as KeptServer}
 use Rattle.core_server.specs.Standing.{Kept, IsKept}
 use Rattle.core_server.specs.Standing as server
@@ -41,21 +37,16 @@ use Rattle.core_server.specs.SnapshotLaws.{IsOwner, SnapshotsCome, SnapshotsEnd}
 use Rattle.core_exchanges.specs.declared.exchanges.Exchanges.{Exchanges}
 use Rattle.core_exchanges.specs.Standing as exchanges
 use Rattle.core_machine.specs.declared.machine.Machine.{Machine}
-use Rattle.core_machine.specs.Answering.{AreGivenNumbers, Halfway, settled_at, texts_at}
+use Rattle.core_machine.specs.Answering.{Halfway}
 use Rattle.core_machine.specs.Awaiting.{IsAwaitingAnswered}
 use Rattle.core_machine.specs.Faults.{if_starting, under_way}
 use Rattle.core_machine.specs.Opening.{SparesClients}
-use Rattle.core_machine.specs.Replying.{answered_in, refusal_of as refusal_by}
 use Rattle.core_machine.specs.Snapshots.{HasBegun, IsRefusedFor}
-use Rattle.core_machine.specs.Standing.{lasts_of, Stands}
+use Rattle.core_machine.specs.Standing.{Stands}
 use Rattle.core_machine.specs.Turns.{GoesOn}
-use Rattle.core_machine.proofs.Changing.{awaiting_settles}
-use Rattle.core_machine.proofs.Lasts.{lasts_dropped, lasts_redefined, lasts_started}
-use Rattle.core_machine.proofs.Quiet.{TellsNothing, not_equal, removes_other, shape_apart, quiet_then, quiet_event, quiet_dropped, quiet_redefined}
+use Rattle.core_machine.proofs.Lasts.{lasts_started}
+use Rattle.core_machine.proofs.Quiet.{TellsNothing, not_equal, removes_other, shape_apart, quiet_then, quiet_event}
 use Rattle.core_machine.proofs.Removing.{next_by, halfway_next, with_server, happened, roles_refused, none_under_way}
-use Rattle.core_machine.proofs.Requests.{refused_as}
-use Rattle.core_machine.proofs.Short.{short_logs}
-use Rattle.core_machine.proofs.Turning.{said_refused, said_changed, settles, goes}
 
 -- ---- small facts
 
