@@ -1,5 +1,5 @@
 -- Rows under one entry and its undoing, and under many.
-use Rattle.std.proofs.Common.{◌≡◌, ℕ, ◌+◌, Bool, true, false, cond, List, [], ◌∷◌, ◌++◌, drop, map, refl, sym, ◌∙◌, ap, subst, append_assoc, Option, None, Some, is_some, IsSomeAnd}
+use Rattle.std.proofs.Common.{◌≡◌, ℕ, ◌+◌, Bool, true, false, cond, List, [], ◌∷◌, ◌++◌, drop, map, refl, sym, ◌∙◌, ap, subst, append_assoc, Option, None, Some, is_some, Ok}
 use Rattle.std.specs.Bool.{if◌then◌else◌}
 use Rattle.std.specs.Option.{option_and_then, option_map}
 use Rattle.std.specs.FinMap as fin
@@ -13,7 +13,7 @@ use Rattle.shape_base.specs.Tables.{same_text}
 use Rattle.shape_base.specs.Log.{value_in, replaced, fold_op, fold_from, fault_or, first_fault}
 use Rattle.shape_base.proofs.Lemmas.{exact, tied, same_from_tied, insert_twice, remove_inserted}
 use Rattle.fold_client.specs.declared.rows.Undo.{Undo}
-use Rattle.fold_client.specs.Rows.{keyed_row, restored, undone, Undoes}
+use Rattle.fold_client.specs.Rows.{keyed_row, restored, undone, Steps}
 
 -- ---- one entry
 
@@ -62,33 +62,30 @@ deletes_not m k v h = (ap (λ (o : Option (List Cell)). if is_some o then Some (
 abbrev Row : Type 0
 Row = Option (List Cell)
 
-pub inserted : (m new : Map) (k k' : List ℕ) (v v' : List Cell) (o : Row) → o ≡ fin.get m k → o ≡ None → new ≡ fin.insert m k v' → v' ≡ v → k' ≡ k → (fold_op Insert k v m ≡ Some new) × (fin.remove new k' ≡ m)
-inserted m new k k' v v' o e n is same key =
+pub inserted : (m new : Map) (k : List ℕ) (v : List Cell) (o : Row) → o ≡ fin.get m k → o ≡ None → new ≡ fin.insert m k v → (fold_op Insert k v m ≡ Some new) × (fin.remove new k ≡ m)
+inserted m new k v o e n is =
     let p = inserts m k v (sym e ∙ n) in
-    let now : fin.insert m k v ≡ new = sym (is ∙ ap (fin.insert m k) same) in
-    (p.0 ∙ ap Some now, ap (λ (x : Map). fin.remove x k') (sym now) ∙ ap (fin.remove (fin.insert m k v)) key ∙ p.1)
+    (p.0 ∙ ap Some (sym is), ap (λ (x : Map). fin.remove x k) is ∙ p.1)
 
-pub inserted_not : (m mid new : Map) (k : List ℕ) (v v' w : List Cell) (o : Row) → o ≡ fin.get m k → o ≡ Some w → mid ≡ fin.insert m k v' → v' ≡ v → new ≡ fin.insert mid k w → (fold_op Insert k v m ≡ None) × (new ≡ m)
-inserted_not m mid new k v v' w o e n is same back =
+pub inserted_not : (m mid new : Map) (k : List ℕ) (v w : List Cell) (o : Row) → o ≡ fin.get m k → o ≡ Some w → mid ≡ fin.insert m k v → new ≡ fin.insert mid k w → (fold_op Insert k v m ≡ None) × (new ≡ m)
+inserted_not m mid new k v w o e n is back =
     let p = inserts_not m k v w (sym e ∙ n) in
-    (p.0, back ∙ ap (λ (x : Map). fin.insert x k w) (is ∙ ap (fin.insert m k) same) ∙ p.1)
+    (p.0, back ∙ ap (λ (x : Map). fin.insert x k w) is ∙ p.1)
 
-pub updated : (m new : Map) (k k' : List ℕ) (news olds made : List Cell) (got stood : Row) → got ≡ fin.get m k → got ≡ Some olds → stood ≡ fin.get m k → made ≡ replaced news olds → new ≡ fin.insert m k made → k' ≡ k
-    → (fold_op Update k news m ≡ Some new) × (restored k' stood new ≡ m)
-updated m new k k' news olds made got stood e n s same is key =
+pub updated : (m new : Map) (k : List ℕ) (news olds made : List Cell) (got stood : Row) → got ≡ fin.get m k → got ≡ Some olds → stood ≡ fin.get m k → made ≡ replaced news olds → new ≡ fin.insert m k made → (fold_op Update k news m ≡ Some new) × (restored k stood new ≡ m)
+updated m new k news olds made got stood e n s same is =
     let here : fin.get m k ≡ Some olds = sym e ∙ n in (
       ap (option_map (λ (x : List Cell). fin.insert m k (replaced news x))) here ∙ ap (λ (x : List Cell). Some (fin.insert m k x)) (sym same) ∙ ap Some (sym is),
-      ap (λ (o : Row). restored k' o new) (s ∙ here) ∙ ap (λ (x : Map). fin.insert x k' olds) is ∙ ap (λ (q : List ℕ). fin.insert (fin.insert m k made) q olds) key
-          ∙ insert_twice m k made olds ∙ insert_same m k olds here,
+      ap (λ (o : Option (List Cell)). restored k o new) (s ∙ here) ∙ ap (λ (x : Map). fin.insert x k olds) is ∙ insert_twice m k made olds ∙ insert_same m k olds here,
     )
 
 pub updated_not : (m : Map) (k : List ℕ) (news : List Cell) (got : Row) → got ≡ fin.get m k → got ≡ None → fold_op Update k news m ≡ None
 updated_not m k news got e n = ap (option_map (λ (x : List Cell). fin.insert m k (replaced news x))) (sym e ∙ n)
 
-pub deleted : (m new : Map) (k k' : List ℕ) (v olds : List Cell) (o : Row) → o ≡ fin.get m k → o ≡ Some olds → new ≡ fin.remove m k → k' ≡ k → (fold_op Delete k v m ≡ Some new) × (fin.insert new k' olds ≡ m)
-deleted m new k k' v olds o e n gone key =
+pub deleted : (m new : Map) (k : List ℕ) (v olds : List Cell) (o : Row) → o ≡ fin.get m k → o ≡ Some olds → new ≡ fin.remove m k → (fold_op Delete k v m ≡ Some new) × (fin.insert new k olds ≡ m)
+deleted m new k v olds o e n gone =
     let p = deletes m k v olds (sym e ∙ n) in
-    (p.0 ∙ ap Some (sym gone), ap (λ (x : Map). fin.insert x k' olds) gone ∙ ap (λ (q : List ℕ). fin.insert (fin.remove m k) q olds) key ∙ p.1)
+    (p.0 ∙ ap Some (sym gone), ap (λ (x : Map). fin.insert x k olds) gone ∙ p.1)
 
 pub deleted_not : (m mid : Map) (k : List ℕ) (v : List Cell) (o : Row) → o ≡ fin.get m k → o ≡ None → mid ≡ fin.remove m k → (fold_op Delete k v m ≡ None) × (mid ≡ m)
 deleted_not m mid k v o e n gone = let p = deletes_not m k v (sym e ∙ n) in (p.0, gone ∙ p.1)
@@ -108,42 +105,24 @@ pub undone-append : (us : List Undo) (u : Undo) (m : Map) → undone (us ++ u �
 undone-append [] u m = refl
 undone-append (x ∷ us) u m = ap (restored x.key x.before) (undone-append us u m)
 
--- however many are left, they lead from here to where all lead from the start, and what was folded can be undone
-pub record Folds (entries : List Entry) (n : ℕ) (before now : Map) (us : List Undo) : Type 0 where
-  pub folded : fold_from entries before ≡ fold_from (drop n entries) now
-  pub fault : first_fault entries before ≡ first_fault (drop n entries) now
+-- those that are left lead from here to where all lead from the start, and what was folded can be undone
+pub record Folds (entries rest : List Entry) (before now : Map) (us : List Undo) : Type 0 where
+  pub folded : fold_from entries before ≡ fold_from rest now
+  pub fault : first_fault entries before ≡ first_fault rest now
   pub back : undone us now ≡ before
 
-pub folds_start : (entries : List Entry) (m : Map) → Folds entries 0 m m []
-folds_start entries m = record { folded = refl; fault = refl; back = refl }
-
-pub folds_more : (entries : List Entry) (n : ℕ) (before now new : Map) (us : List Undo) (u : Undo) (e : Entry) → drop n entries ≡ e ∷ drop (n + 1) entries → Folds entries n before now us
-    → Undoes now new (fold_op e.op e.key e.cells now) (Some u) → Folds entries (n + 1) before new (us ++ u ∷ [])
-folds_more entries n before now new us u e is f k = record {
-  folded = f.folded ∙ ap (λ (es : List Entry). fold_from es now) is ∙ ap (option_and_then (fold_from (drop (n + 1) entries))) k.0;
-  fault = f.fault ∙ ap (λ (es : List Entry). first_fault es now) is ∙ ap (fault_or e (first_fault (drop (n + 1) entries))) k.0;
+pub folds_more : (entries left rest : List Entry) (before now new : Map) (us : List Undo) (u : Undo) (e : Entry) → left ≡ e ∷ rest → Folds entries left before now us → Steps e.op e now new (Ok u) → Folds entries rest before new (us ++ u ∷ [])
+folds_more entries left rest before now new us u e is f k = record {
+  folded = f.folded ∙ ap (λ (es : List Entry). fold_from es now) is ∙ ap (option_and_then (fold_from rest)) k.0;
+  fault = f.fault ∙ ap (λ (es : List Entry). first_fault es now) is ∙ ap (fault_or e (first_fault rest)) k.0;
   back = undone-append us u new ∙ ap (undone us) k.1 ∙ f.back;
 }
-
--- an entry that cannot be folded
-pub folds_not : (entries : List Entry) (n : ℕ) (before now new : Map) (us : List Undo) (e : Entry) → drop n entries ≡ e ∷ drop (n + 1) entries → Folds entries n before now us
-    → Undoes now new (fold_op e.op e.key e.cells now) None → (undone us new ≡ before) × (first_fault entries before ≡ Some e)
-folds_not entries n before now new us e is f k = (
-  ap (undone us) k.1 ∙ f.back,
-  f.fault ∙ ap (λ (es : List Entry). first_fault es now) is ∙ ap (fault_or e (first_fault (drop (n + 1) entries))) k.0,
-)
-
-pub folds_all : (entries : List Entry) (before now : Map) (us : List Undo) (n : ℕ) → drop n entries ≡ [] → Folds entries n before now us → fold_from entries before ≡ Some now
-folds_all entries before now us n is f = f.folded ∙ ap (λ (es : List Entry). fold_from es now) is
 
 -- ---- undoing
 
 -- the last was undone
 pub undone_last : (us : List Undo) (u : Undo) (rest : List Undo) (m new : Map) → us ≡ rest ++ u ∷ [] → new ≡ restored u.key u.before m → undone rest new ≡ undone us m
 undone_last us u rest m new is e = ap (undone rest) e ∙ sym (undone-append rest u m) ∙ ap (λ (xs : List Undo). undone xs m) (sym is)
-
-pub at_offset : (o : Option Entry) (e : Entry) → o ≡ Some e → IsSomeAnd o (λ x. (x.offset ≡ e.offset) × (x.key ≡ e.key))
-at_offset o e h = subst (λ (x : Option Entry). IsSomeAnd x (λ y. (y.offset ≡ e.offset) × (y.key ≡ e.key))) (sym h) (refl, refl)
 
 -- one row more
 pub row_more : (made : List KeyedRow) (left next : List Keyed) (row : Keyed) (key : List ℕ) (cells : List Cell) (all : List KeyedRow) → left ≡ row ∷ next → key ≡ row.0 → cells ≡ row.1 → made ++ map keyed_row left ≡ all

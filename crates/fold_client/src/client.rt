@@ -183,13 +183,14 @@ impl Client {
         handle: &Handle,
         end: Offset,
         cursor: Option<u64>,
-        body: &Body,
+        body: Body,
     ) -> Result<Taken, TakeError>
-        ensures meets { Meets (law.with_rows (held_by self.old) handle.now end cursor body.now (fold_from body.now.entries self.old.rows)) (held_by self.old) result (held_by self.new) }
+        ensures meets { Meets (law.with_rows (held_by self.old) handle.now end cursor body (fold_from body.entries self.old.rows)) (held_by self.old) result (held_by self.new) }
         ensures query { self.new.query ≡ self.old.query }
     {
         let handle = handle.copy(self.alloc)?;
-        match self.rows.fold(body.entries.as_slice()) {
+        let Body { entries, control } = body;
+        match self.rows.fold(entries.into_vec()) {
             Err(OutOfMemory) => {
                 self.begin(None);
                 Err(TakeError::OutOfMemory)
@@ -201,7 +202,7 @@ impl Client {
             Ok(None) => {
                 self.handle = Some(handle);
                 self.offset = end;
-                if is_current(body.control) {
+                if is_current(control) {
                     self.cursor = cursor;
                     Ok(Taken::UpToDate)
                 } else {
@@ -217,9 +218,9 @@ impl Client {
         handle: &Handle,
         end: Offset,
         cursor: Option<u64>,
-        body: &Body,
+        body: Body,
     ) -> Result<Taken, TakeError>
-        ensures meets { Meets (law.with_handle (held_by self.old) self.old.handle handle.now end cursor body.now) (held_by self.old) result (held_by self.new) }
+        ensures meets { Meets (law.with_handle (held_by self.old) self.old.handle handle.now end cursor body) (held_by self.old) result (held_by self.new) }
         ensures query { self.new.query ≡ self.old.query }
     {
         if let Some(asked) = &self.handle {
@@ -238,12 +239,12 @@ impl Client {
         handle: &Handle,
         end: Offset,
         cursor: Option<u64>,
-        body: &Body,
+        body: Body,
     ) -> Result<Taken, TakeError>
-        ensures meets { Meets (law.with_parts (held_by self.old) cursor (Option.Some handle.now) (Option.Some end) (Option.Some body.now)) (held_by self.old) result (held_by self.new) }
+        ensures meets { Meets (law.with_parts (held_by self.old) cursor (Option.Some handle.now) (Option.Some end) (Option.Some body)) (held_by self.old) result (held_by self.new) }
         ensures query { self.new.query ≡ self.old.query }
     {
-        if is_bad(self.offset, end, cursor, body) {
+        if is_bad(self.offset, end, cursor, &body) {
             return Err(TakeError::BadReply);
         }
         self.take_handle(handle, end, cursor, body)
@@ -262,7 +263,7 @@ impl Client {
         let Some(body) = body_in(self.alloc, &reply.body)? else {
             return Err(TakeError::BadReply);
         };
-        self.take_body(handle, end, reply.cursor, &body)
+        self.take_body(handle, end, reply.cursor, body)
     }
 
     fn take_by_status(&mut self, reply: &Reply) -> Result<Taken, TakeError>

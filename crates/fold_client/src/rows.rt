@@ -3,9 +3,9 @@ ghost use Rattle.std.specs.Prelude.{◌≡◌, List, unwrap_or, true, false, Opt
 ghost use Rattle.std.specs.Option.{option_copied};
 ghost use Rattle.std.specs.FinMap as fin;
 ghost use Rattle.shape_base.specs.declared.entry.Cell.{Cell};
-ghost use Rattle.shape_base.specs.Log.{replaced, value_in, fold_op};
+ghost use Rattle.shape_base.specs.Log.{replaced, value_in};
 ghost use Rattle.shape_base.specs.Maps.{map_in};
-ghost use Rattle.fold_client.specs.Rows.{keyed_row, restored, undone, IsFolded, Undoes};
+ghost use Rattle.fold_client.specs.Rows.{keyed_row, restored, undone, IsFolded, Steps};
 
 use shape_base::{
     Cell, Cells, Duplicate, Entry, KeyedRow, KeyedRows, Offset, Op, OutOfMemory, Text,
@@ -125,55 +125,64 @@ impl FoldedRows {
         }
     }
 
-    fn insert(&mut self, entry: &Entry) -> Result<Option<Undo>, OutOfMemory>
-        ensures { IfOk result (Undoes self.old self.new (fold_op Op.Insert entry.now.key entry.now.cells self.old)) }
+    fn insert(&mut self, entry: Entry) -> Result<Result<Undo, Fault>, OutOfMemory>
+        ensures { IfOk result (Steps Op.Insert entry self.old self.new) }
     {
-        let cells = entry.cells.copy(self.alloc)?;
-        let key = entry.key.copy(self.alloc)?;
-        match self.put(&entry.key, cells)? {
-            None => Ok(Some(Undo { key, before: None })),
-            Some(before) => {
-                let _cells = self.put(&entry.key, before)?;
-                Ok(None)
-            }
-        }
-    }
-
-    fn update(&mut self, entry: &Entry) -> Result<Option<Undo>, OutOfMemory>
-        ensures { IfOk result (Undoes self.old self.new (fold_op Op.Update entry.now.key entry.now.cells self.old)) }
-    {
-        let key = entry.key.copy(self.alloc)?;
-        match self.get(&entry.key) {
-            None => Ok(None),
-            Some(before) => {
-                let cells = replaced_cells(self.alloc, before, &entry.cells)?;
-                let stood = self.put(&entry.key, cells)?;
-                Ok(Some(Undo { key, before: stood }))
-            }
-        }
-    }
-
-    fn delete(&mut self, entry: &Entry) -> Result<Option<Undo>, OutOfMemory>
-        ensures { IfOk result (Undoes self.old self.new (fold_op Op.Delete entry.now.key entry.now.cells self.old)) }
-    {
-        let key = entry.key.copy(self.alloc)?;
-        let Some(before) = self.take_out(&entry.key) else {
-            return Ok(None);
-        };
-        Ok(Some(Undo {
+        let Entry {
+            offset,
             key,
-            before: Some(before),
-        }))
+            cells,
+            ..
+        } = entry;
+        match self.put(&key, cells)? {
+            None => Ok(Ok(Undo { key, before: None })),
+            Some(before) => {
+                let _cells = self.put(&key, before)?;
+                Ok(Err(Fault { offset, key }))
+            }
+        }
+    }
+
+    fn update(&mut self, entry: Entry) -> Result<Result<Undo, Fault>, OutOfMemory>
+        ensures { IfOk result (Steps Op.Update entry self.old self.new) }
+    {
+        let Entry {
+            offset,
+            key,
+            cells,
+            ..
+        } = entry;
+        match self.get(&key) {
+            None => Ok(Err(Fault { offset, key })),
+            Some(before) => {
+                let replaced = replaced_cells(self.alloc, before, &cells)?;
+                let stood = self.put(&key, replaced)?;
+                Ok(Ok(Undo { key, before: stood }))
+            }
+        }
+    }
+
+    fn delete(&mut self, entry: Entry) -> Result<Undo, Fault>
+        ensures { Steps Op.Delete entry self.old self.new result }
+    {
+        let Entry { offset, key, .. } = entry;
+        match self.take_out(&key) {
+            None => Err(Fault { offset, key }),
+            Some(before) => Ok(Undo {
+                key,
+                before: Some(before),
+            }),
+        }
     }
 
     /// Folds one entry, where it finds what it needs.
-    fn fold_one(&mut self, entry: &Entry) -> Result<Option<Undo>, OutOfMemory>
-        ensures { IfOk result (Undoes self.old self.new (fold_op entry.now.op entry.now.key entry.now.cells self.old)) }
+    fn fold_one(&mut self, entry: Entry) -> Result<Result<Undo, Fault>, OutOfMemory>
+        ensures { IfOk result (Steps entry.op entry self.old self.new) }
     {
         match entry.op {
             Op::Insert => self.insert(entry),
             Op::Update => self.update(entry),
-            Op::Delete => self.delete(entry),
+            Op::Delete => Ok(self.delete(entry)),
         }
     }
 
@@ -190,20 +199,18 @@ impl FoldedRows {
     /// Folds entries, each of which finds what it needs in the rows after those before it.
     ///
     /// Where one does not, the first such entry is named, and the rows are as they were. After want of memory nothing is said of the rows.
-    pub fn fold(&mut self, entries: &[Entry]) -> Result<Option<Fault>, OutOfMemory>
-        ensures { IfOk result (IsFolded entries.now self.old self.new) }
+    pub fn fold(&mut self, entries: Vec<Entry>) -> Result<Option<Fault>, OutOfMemory>
+        ensures { IfOk result (IsFolded entries.items self.old self.new) }
     {
         let mut folded = Vec::new(self.alloc);
         for entry in entries {
-            let Some(undo) = self.fold_one(entry)? else {
-                let key = entry.key.copy(self.alloc)?;
-                self.undo(folded)?;
-                return Ok(Some(Fault {
-                    offset: entry.offset,
-                    key,
-                }));
-            };
-            folded.push(undo)?;
+            match self.fold_one(entry)? {
+                Ok(undo) => folded.push(undo)?,
+                Err(fault) => {
+                    self.undo(folded)?;
+                    return Ok(Some(fault));
+                }
+            }
         }
         Ok(None)
     }

@@ -1,16 +1,14 @@
-use Rattle.std.proofs.Common.{◌≡◌, ◌+◌, ◌∷◌, ◌∙◌, List, drop, subst, sym, ap, Option}
-use Rattle.std.proofs.lemmas.List.{drop_more}
-use Rattle.shape_base.specs.Log.{fold_op}
-use Rattle.shape_base.specs.declared.entry.Entry.{Entry}
+use Rattle.std.proofs.Common.{List, sym, subst, Result}
 use Rattle.fold_client.specs.declared.rows.Undo.{Undo}
-use Rattle.fold_client.specs.Rows.{Undoes}
+use Rattle.fold_client.specs.declared.rows.Fault.{Fault}
+use Rattle.fold_client.specs.Rows.{Steps}
 use Rattle.fold_client.proofs.Folding.{Folds, folds_more}
 use Rattle.fold_client.proofs.rows.FoldedRows.fold.Goals as goal
 
 pub loop-entry-preserved : goal.loop-entry-preserved
 loop-entry-preserved c =
-    let e = c.entry-item.result in
-    let is : drop c.loop-entry.entry-index c.args.entries.now ≡ e ∷ drop (c.loop-entry.entry-index + 1) c.args.entries.now = drop_more c.args.entries.now c.loop-entry.entry-index e c.loop-entry-test.true ∙ ap (λ (x : Entry). x ∷ drop (c.loop-entry.entry-index + 1) c.args.entries.now) (sym c.entry-item.is) in
-    let next = folds_more c.args.entries.now c.loop-entry.entry-index c.args.self.now c.loop-entry.self c.fold_one.new.self c.loop-entry.folded.items c.in-Some.undo e is c.loop-entry.invariant
-    (subst (λ (o : Option Undo). Undoes c.loop-entry.self c.fold_one.new.self (fold_op e.op e.key e.cells c.loop-entry.self) o) c.in-Some.is c.in_ok-undo.ensures) in
-    subst (λ (us : List Undo). Folds c.args.entries.now (c.loop-entry.entry-index + 1) c.args.self.now c.fold_one.new.self us) (sym (c.in_ok-push.ensures).items) next
+    let e = c.in-Some.entry in
+    let rest = c.next.new.self.rest.items in
+    let step = subst (λ (r : Result Undo Fault). Steps e.op e c.loop-entry.self c.fold_one.new.self r) c.in-Ok.is c.in_ok-undo.ensures in
+    let next = folds_more c.args.entries.items c.loop-entry.entry-iterator.rest.items rest c.args.self.now c.loop-entry.self c.fold_one.new.self c.loop-entry.folded.items c.in-Ok.undo e c.in-Some.ensures.steps.0 c.loop-entry.invariant step in
+    subst (λ (us : List Undo). Folds c.args.entries.items rest c.args.self.now c.fold_one.new.self us) (sym (c.in_ok-push-in-Ok.ensures).items) next
