@@ -3,6 +3,7 @@ pub mod Leading
 pub mod Turns
 pub mod Streams
 pub mod Commits
+pub mod Giving
 pub mod Whole
 pub mod Calls
 pub mod Lemmas

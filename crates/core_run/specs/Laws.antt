@@ -1,17 +1,19 @@
 -- The laws over whole lists of events.
-use Rattle.std.specs.Prelude.{◌≡◌, ℕ, List, [], ◌∷◌, ◌++◌, Option}
+use Rattle.std.specs.Prelude.{◌≡◌, ℕ, List, [], ◌∷◌, ◌++◌, Some, IsSomeAnd, slice_get}
 use Rattle.std.specs.List.{AllByRecursion}
 use Rattle.shape_base.specs.declared.history.History.{History}
 use Rattle.shape_base.specs.Tables.{IsGoodHistory}
 use Rattle.tx_assembler.specs.Shown.{Stretch, Shows}
 use Rattle.core_events.specs.declared.event.Event.{Event}
-use Rattle.core_law.specs.Situation.{Options, world_of}
+use Rattle.http_edge.specs.World.{World}
+use Rattle.http_edge.specs.Lawful.{IsLawful}
+use Rattle.fold_client.specs.Following.{Heard}
+use Rattle.core_law.specs.Situation.{Options, Exchange, world_of}
 use Rattle.core_law.specs.Situation as law
-use Rattle.core_law.specs.Clients.{Out}
+use Rattle.core_law.specs.Clients.{Out, Gives, Cut, Block, Refetched, Refused}
 use Rattle.core_law.specs.Run.{after, told}
 use Rattle.core_law.specs.Laws.{IsStart, IsRoutedEvent, AreHonest, IsLawfulExchange, IsRightOut, AreOfRequests}
-use Rattle.sync_core.specs.Stream.{Stream, Fault, stretch_of, done_in, commits_of}
-use Rattle.sync_core.specs.Reading.{Reading}
+use Rattle.sync_core.specs.Stream.{Stream, stretch_of, done_in, commits_of}
 use Rattle.sync_core.specs.Run.{Situation, at_start, Goes, IsRead, turned}
 use Rattle.core_run.specs.Steps.{Step, Leads, brought_in, told_in}
 
@@ -70,6 +72,23 @@ pub record IsToldBy (o : Options) (h : History) (step : ℕ → ℕ) (next : Sit
 abbrev pub RepliesAreLawful : Type 0
 RepliesAreLawful = (o : Options) (h : History) (step : ℕ → ℕ) (events : List Event) (steps : List Step) (next : Situation) → IsStart o → Leads o at_start events steps next → IsToldBy o h step next
     → AllByRecursion (IsLawfulExchange (world_of o h step next.core.server)) next.core.exchanges
+
+-- the exchange has this reply, which is lawful
+pub record HasLawful (w : World) (heard : Heard) (x : Exchange) : Type 0 where
+  pub given : x.given ≡ Some heard
+  pub lawful : IsLawful w x.asked heard.given
+
+abbrev pub IsLawfulOut : World → List Exchange → Out × law.Situation → Type 0
+IsLawfulOut w xs (Gives e heard, s) = IsSomeAnd (slice_get xs e) (HasLawful w heard)
+IsLawfulOut w xs (Cut e, s) = Unit {0}
+IsLawfulOut w xs (Block n handle offset rows, s) = Unit {0}
+IsLawfulOut w xs (Refetched n, s) = Unit {0}
+IsLawfulOut w xs (Refused n status, s) = Unit {0}
+
+-- Each reply that was put out is that of its exchange, and lawful.
+abbrev pub OutsAreLawful : Type 0
+OutsAreLawful = (o : Options) (h : History) (step : ℕ → ℕ) (events : List Event) (steps : List Step) (next : Situation) → IsStart o → Leads o at_start events steps next → IsToldBy o h step next
+    → AllByRecursion (IsLawfulOut (world_of o h step next.core.server) next.core.exchanges) (told_in steps)
 
 -- Each block has the rows of the table after the client's reach that the shape of its identity selects, and the shape of each number is that of a request.
 pub record AreRight (o : Options) (h : History) (step : ℕ → ℕ) (steps : List Step) (next : Situation) : Type 0 where

@@ -3,7 +3,7 @@
 //! There is no machine here: what a list of events leads to, and laws over it. A core that answers each event goes by these definitions and has the laws.
 #![tactic(auto)]
 
-ghost use Rattle.core_run.specs.Laws.{LeadsMore, LeadsOn, LeadsToEvents, CommitsAreShown, RepliesAreLawful, Headline};
+ghost use Rattle.core_run.specs.Laws.{LeadsMore, LeadsOn, LeadsToEvents, CommitsAreShown, RepliesAreLawful, OutsAreLawful, Headline};
 ghost use Rattle.core_run.specs.Calls.{ComesFirst, ComesMore, CallsLead};
 
 /// One event more leads to the situation after it.
@@ -36,6 +36,14 @@ pub fn replies_are_lawful()
     leads_to_events();
     commits_are_shown();
     core_law::replies_are_lawful();
+}
+
+/// Each reply that was put out is that of its exchange, and lawful.
+pub fn outs_are_lawful()
+    ensures { OutsAreLawful }
+{
+    leads_to_events();
+    replies_are_lawful();
 }
 
 /// Each block has the rows of the table after the client's reach that the shape of its identity selects.
