@@ -6,4 +6,5 @@ pub mod Commits
 pub mod Giving
 pub mod Whole
 pub mod Calls
+pub mod Worked
 pub mod Lemmas
