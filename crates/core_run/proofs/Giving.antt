@@ -29,61 +29,67 @@ use Rattle.core_law.specs.Run.{RequestCame, HeadCut, SnapshotCame, SnapshotEnded
 
 -- ---- replies among exchanges
 
--- the exchange in a place was given this reply
-abbrev pub WasGiven : List Exchange → ℕ → Heard → Type 0
-WasGiven xs e heard = IsSomeAnd (slice_get xs e) (λ x. x.given ≡ Some heard)
+-- an exchange asks this, its connection ends so, and it has this reply
+pub record IsAnswered (request : Asked × Bool) (heard : Heard) (x : Exchange) : Type 0 where
+  pub asked : x.asked ≡ request.0
+  pub close : x.close ≡ request.1
+  pub given : x.given ≡ Some heard
+
+-- the exchange in a place is such a one
+abbrev pub WasGiven : List Exchange → ℕ → Asked × Bool → Heard → Type 0
+WasGiven xs e request heard = IsSomeAnd (slice_get xs e) (IsAnswered request heard)
 
 -- a reply that is put out is that of its exchange
 abbrev pub IsGivenAmong : List Exchange → Out → Type 0
-IsGivenAmong xs (Gives e heard) = WasGiven xs e heard
+IsGivenAmong xs (Gives e heard) = (request : Asked × Bool) × WasGiven xs e request heard
 IsGivenAmong xs (Cut e) = Unit {0}
 IsGivenAmong xs (Block n handle offset rows) = Unit {0}
 IsGivenAmong xs (Refetched n) = Unit {0}
 IsGivenAmong xs (Refused n status) = Unit {0}
 
 -- the replies of the one list stay in the other
-abbrev Stay : List Exchange → List Exchange → Type 0
-Stay xs ys = (e : ℕ) (heard : Heard) → WasGiven xs e heard → WasGiven ys e heard
+abbrev pub Stay : List Exchange → List Exchange → Type 0
+Stay xs ys = (e : ℕ) (request : Asked × Bool) (heard : Heard) → WasGiven xs e request heard → WasGiven ys e request heard
 
-stay_same : (xs : List Exchange) → Stay xs xs
-stay_same xs e heard h = h
+pub stay_same : (xs : List Exchange) → Stay xs xs
+stay_same xs e r heard h = h
 
-stay_trans : (xs ys zs : List Exchange) → Stay xs ys → Stay ys zs → Stay xs zs
-stay_trans xs ys zs a b e heard h = b e heard (a e heard h)
+pub stay_trans : (xs ys zs : List Exchange) → Stay xs ys → Stay ys zs → Stay xs zs
+stay_trans xs ys zs a b e r heard h = b e r heard (a e r heard h)
 
 stay_more : (xs : List Exchange) (y : Exchange) → Stay xs (xs ++ y ∷ [])
-stay_more [] y e heard h = absurd h
-stay_more (x ∷ xs) y zero heard h = h
-stay_more (x ∷ xs) y (suc e) heard h = stay_more xs y e heard h
+stay_more [] y e r heard h = absurd h
+stay_more (x ∷ xs) y zero r heard h = h
+stay_more (x ∷ xs) y (suc e) r heard h = stay_more xs y e r heard h
 
-one_stays : (o : Options) (v : Server) (late : Exchange → Bool) (x : Exchange) (given : Option Heard) (heard : Heard) → given ≡ Some heard → x.given ≡ Some heard → (settled_one o v late x given).given ≡ Some heard
-one_stays o v late x None heard e h = cc
-one_stays o v late x (Some other) heard e h = h
+one_stays : (o : Options) (v : Server) (late : Exchange → Bool) (x : Exchange) (given : Option Heard) (request : Asked × Bool) (heard : Heard) → given ≡ Some heard → IsAnswered request heard x → IsAnswered request heard (settled_one o v late x given)
+one_stays o v late x None r heard e h = cc
+one_stays o v late x (Some other) r heard e h = h
 
 stay_settled : (o : Options) (v : Server) (late : Exchange → Bool) (xs : List Exchange) → Stay xs (map (λ x. settled_one o v late x x.given) xs)
-stay_settled o v late [] e heard h = absurd h
-stay_settled o v late (x ∷ xs) zero heard h = one_stays o v late x x.given heard h h
-stay_settled o v late (x ∷ xs) (suc e) heard h = stay_settled o v late xs e heard h
+stay_settled o v late [] e r heard h = absurd h
+stay_settled o v late (x ∷ xs) zero r heard h = one_stays o v late x x.given r heard h.given h
+stay_settled o v late (x ∷ xs) (suc e) r heard h = stay_settled o v late xs e r heard h
 
 option_stays : (given other : Option Heard) (heard : Heard) → given ≡ Some heard → option_or given other ≡ Some heard
 option_stays None other heard e = cc
 option_stays (Some x) other heard e = e
 
 stay_refused : (v : Server) (code : ErrorCode) (xs : List Exchange) (i : ℕ) → Stay xs (change_at (refused_at v code) xs i)
-stay_refused v code [] i e heard h = absurd h
-stay_refused v code (x ∷ xs) zero zero heard h = option_stays x.given _ heard h
-stay_refused v code (x ∷ xs) zero (suc e) heard h = h
-stay_refused v code (x ∷ xs) (suc i) zero heard h = h
-stay_refused v code (x ∷ xs) (suc i) (suc e) heard h = stay_refused v code xs i e heard h
+stay_refused v code [] i e r heard h = absurd h
+stay_refused v code (x ∷ xs) zero zero r heard h = record { asked = h.asked; close = h.close; given = option_stays x.given _ heard h.given }
+stay_refused v code (x ∷ xs) zero (suc e) r heard h = h
+stay_refused v code (x ∷ xs) (suc i) zero r heard h = h
+stay_refused v code (x ∷ xs) (suc i) (suc e) r heard h = stay_refused v code xs i e r heard h
 
 among_later : (xs ys : List Exchange) (out : Out) → Stay xs ys → IsGivenAmong xs out → IsGivenAmong ys out
-among_later xs ys (Gives e heard) stay h = stay e heard h
+among_later xs ys (Gives e heard) stay h = (h.0, stay e h.0 heard h.1)
 among_later xs ys (Cut e) stay h = tt
 among_later xs ys (Block n handle offset rows) stay h = tt
 among_later xs ys (Refetched n) stay h = tt
 among_later xs ys (Refused n status) stay h = tt
 
-abbrev AreGiven : List Exchange → List Out → Type 0
+abbrev pub AreGiven : List Exchange → List Out → Type 0
 AreGiven xs outs = AllByRecursion (IsGivenAmong xs) outs
 
 all_later : (xs ys : List Exchange) (outs : List Out) → Stay xs ys → AreGiven xs outs → AreGiven ys outs
@@ -96,42 +102,45 @@ all_both P (x ∷ xs) ys h k = (h.0, all_both P xs ys h.1 k)
 
 -- ---- the replies of one turn
 
-new_given : (all : List Exchange) (i : ℕ) (outside : Bool) (before now : Option Heard) → ((heard : Heard) → now ≡ Some heard → WasGiven all i heard) → AreGiven all (new_reply i outside before now)
-new_given all i false before now there = tt
-new_given all i true (Some h) now there = tt
-new_given all i true None None there = tt
-new_given all i true None (Some heard) there = (there heard refl, tt)
+abbrev request_of : Exchange → Asked × Bool
+request_of x = (x.asked, x.close)
+
+new_given : (all : List Exchange) (i : ℕ) (outside : Bool) (before now : Option Heard) (request : Asked × Bool) → ((heard : Heard) → now ≡ Some heard → WasGiven all i request heard) → AreGiven all (new_reply i outside before now)
+new_given all i false before now r there = tt
+new_given all i true (Some h) now r there = tt
+new_given all i true None None r there = tt
+new_given all i true None (Some heard) r there = ((r, there heard refl), tt)
 
 -- from a place on, these exchanges stand there
 abbrev StandFrom : List Exchange → ℕ → List Exchange → Type 0
-StandFrom all i ys = (k : ℕ) (heard : Heard) → WasGiven ys k heard → WasGiven all (i + k) heard
+StandFrom all i ys = (k : ℕ) (request : Asked × Bool) (heard : Heard) → WasGiven ys k request heard → WasGiven all (i + k) request heard
 
-first_there : (all : List Exchange) (i : ℕ) (y : Exchange) (ys : List Exchange) → StandFrom all i (y ∷ ys) → (heard : Heard) → y.given ≡ Some heard → WasGiven all i heard
-first_there all i y ys from heard h = let e : i + 0 ≡ i = omega arith in subst (λ n. WasGiven all n heard) e (from 0 heard h)
+first_there : (all : List Exchange) (i : ℕ) (y : Exchange) (ys : List Exchange) → StandFrom all i (y ∷ ys) → (heard : Heard) → y.given ≡ Some heard → WasGiven all i (request_of y) heard
+first_there all i y ys from heard h = let e : i + 0 ≡ i = omega arith in subst (λ n. WasGiven all n (request_of y) heard) e (from 0 (request_of y) heard (record { asked = refl; close = refl; given = h }))
 
 rest_there : (all : List Exchange) (i : ℕ) (y : Exchange) (ys : List Exchange) → StandFrom all i (y ∷ ys) → StandFrom all (i + 1) ys
-rest_there all i y ys from k heard h = let e : i + suc k ≡ (i + 1) + k = omega arith in subst (λ n. WasGiven all n heard) e (from (suc k) heard h)
+rest_there all i y ys from k r heard h = let e : i + suc k ≡ (i + 1) + k = omega arith in subst (λ n. WasGiven all n r heard) e (from (suc k) r heard h)
 
 now_given : (all : List Exchange) (i : ℕ) (xs ys : List Exchange) → StandFrom all i ys → AreGiven all (given_now i xs ys)
 now_given all i xs [] from = tt
-now_given all i [] (y ∷ ys) from = all_both (IsGivenAmong all) (new_reply i y.outside None y.given) (given_now (i + 1) [] ys) (new_given all i y.outside None y.given (first_there all i y ys from)) (now_given all (i + 1) [] ys (rest_there all i y ys from))
-now_given all i (x ∷ xs) (y ∷ ys) from = all_both (IsGivenAmong all) (new_reply i y.outside x.given y.given) (given_now (i + 1) xs ys) (new_given all i y.outside x.given y.given (first_there all i y ys from)) (now_given all (i + 1) xs ys (rest_there all i y ys from))
+now_given all i [] (y ∷ ys) from = all_both (IsGivenAmong all) (new_reply i y.outside None y.given) (given_now (i + 1) [] ys) (new_given all i y.outside None y.given (request_of y) (first_there all i y ys from)) (now_given all (i + 1) [] ys (rest_there all i y ys from))
+now_given all i (x ∷ xs) (y ∷ ys) from = all_both (IsGivenAmong all) (new_reply i y.outside x.given y.given) (given_now (i + 1) xs ys) (new_given all i y.outside x.given y.given (request_of y) (first_there all i y ys from)) (now_given all (i + 1) xs ys (rest_there all i y ys from))
 
 -- the replies that a turn puts out are those of its exchanges, and those before it stay
-record Tells (s : Situation) (t : Turn) : Type 0 where
-  stays : Stay s.exchanges (next_of s t).exchanges
-  gives : AreGiven (next_of s t).exchanges (outs_of t)
+pub record Tells (s : Situation) (t : Turn) : Type 0 where
+  pub stays : Stay s.exchanges (next_of s t).exchanges
+  pub gives : AreGiven (next_of s t).exchanges (outs_of t)
 
 finishes : (o : Options) (s t : Situation) (late : Exchange → Bool) → Stay s.exchanges t.exchanges → Tells s (finished o late s t)
 finishes o s t late h =
     let next = settled o late t in
     record {
       stays = stay_trans s.exchanges t.exchanges next.exchanges h (stay_settled o t.server late t.exchanges);
-      gives = now_given next.exchanges 0 s.exchanges next.exchanges (λ k heard given. let e : k ≡ 0 + k = omega arith in subst (λ n. WasGiven next.exchanges n heard) e given);
+      gives = now_given next.exchanges 0 s.exchanges next.exchanges (λ k r heard given. let e : k ≡ 0 + k = omega arith in subst (λ n. WasGiven next.exchanges n r heard) e given);
     }
 
 quiet : (s : Situation) (t : Turn) → (next_of s t).exchanges ≡ s.exchanges → outs_of t ≡ [] → Tells s t
-quiet s t same none = record { stays = λ e heard h. subst (λ (xs : List Exchange). WasGiven xs e heard) (sym same) h; gives = subst (AreGiven (next_of s t).exchanges) (sym none) tt }
+quiet s t same none = record { stays = λ e r heard h. subst (λ (xs : List Exchange). WasGiven xs e r heard) (sym same) h; gives = subst (AreGiven (next_of s t).exchanges) (sym none) tt }
 
 stops : (s : Situation) (error : StepError) → Tells s (Stops error)
 stops s error = quiet s (Stops error) refl refl
@@ -279,7 +288,7 @@ moments o s now false = finishes o s (record s { clock = now }) (is_late_at o no
 
 -- ---- each event
 
-each : (o : Options) (s : Situation) (e : run.Event) → Tells s (turn_of o s e)
+pub each : (o : Options) (s : Situation) (e : run.Event) → Tells s (turn_of o s e)
 each o s (RequestCame target asked close) = if_finishes o s (request o s true target asked close) never (Stops errors.TooManyExchanges) (has_room s) (requests o s true target asked close) (stops s errors.TooManyExchanges)
 each o s HeadCut = cuts s (has_room s)
 each o s (SnapshotCame e x) = snaps o s e x (owned_by (slice_get s.exchanges e))

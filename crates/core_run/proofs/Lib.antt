@@ -6,5 +6,6 @@ pub mod Commits
 pub mod Giving
 pub mod Whole
 pub mod Calls
+pub mod Answering
 pub mod Worked
 pub mod Lemmas

@@ -1,5 +1,5 @@
 -- Whole runs over bytes: their replies are lawful, and their blocks are right.
-use Rattle.std.proofs.Common.{◌≡◌, ℕ, zero, suc, List, [], ◌∷◌, length, take, map, refl, sym, ◌∙◌, ap, subst}
+use Rattle.std.proofs.Common.{◌≡◌, ℕ, Bool, zero, suc, List, [], ◌∷◌, length, take, map, refl, sym, ◌∙◌, ap, subst}
 use Rattle.std.specs.List.{slice_get, AllByRecursion}
 use Rattle.std.specs.Prelude.{IfSome, IsSomeAnd}
 use Rattle.shape_base.specs.declared.change.Tx.{Tx}
@@ -10,7 +10,7 @@ use Rattle.shape_base.specs.Transactions.{meaning}
 use Rattle.tx_assembler.specs.Shown.{shown}
 use Rattle.core_events.specs.declared.event.Event.{Event}
 use Rattle.http_edge.specs.World.{World}
-use Rattle.http_edge.specs.Lawful.{IsLawful}
+use Rattle.http_edge.specs.Lawful.{Asked, IsLawful}
 use Rattle.fold_client.specs.Following.{Heard}
 use Rattle.core_law.specs.Situation.{Options, Exchange, world_of}
 use Rattle.core_law.specs.Situation as law
@@ -53,13 +53,13 @@ headline leads_to shown_so right o h step events steps next start leads t =
 
 -- ---- what was put out
 
-lawful_at : (w : World) (xs : List Exchange) (e : ℕ) (heard : Heard) → AllByRecursion (IsLawfulExchange w) xs → WasGiven xs e heard → IsSomeAnd (slice_get xs e) (HasLawful w heard)
-lawful_at w [] e heard all h = absurd h
-lawful_at w (x ∷ xs) zero heard all h = record { given = h; lawful = subst (λ given. IfSome given (λ (y : Heard). IsLawful w x.asked y.given)) h all.0 }
-lawful_at w (x ∷ xs) (suc e) heard all h = lawful_at w xs e heard all.1 h
+pub lawful_at : (w : World) (xs : List Exchange) (e : ℕ) (request : Asked × Bool) (heard : Heard) → AllByRecursion (IsLawfulExchange w) xs → WasGiven xs e request heard → IsSomeAnd (slice_get xs e) (HasLawful w heard)
+lawful_at w [] e r heard all h = absurd h
+lawful_at w (x ∷ xs) zero r heard all h = record { given = h.given; lawful = subst (λ given. IfSome given (λ (y : Heard). IsLawful w x.asked y.given)) h.given all.0 }
+lawful_at w (x ∷ xs) (suc e) r heard all h = lawful_at w xs e r heard all.1 h
 
 lawful_out : (w : World) (xs : List Exchange) (s : law.Situation) (out : Out) → AllByRecursion (IsLawfulExchange w) xs → IsGivenAmong xs out → IsLawfulOut w xs (out, s)
-lawful_out w xs s (Gives e heard) all h = lawful_at w xs e heard all h
+lawful_out w xs s (Gives e heard) all h = lawful_at w xs e h.0 heard all h.1
 lawful_out w xs s (Cut e) all h = tt
 lawful_out w xs s (Block n handle offset rows) all h = tt
 lawful_out w xs s (Refetched n) all h = tt

@@ -4,7 +4,7 @@
 #![tactic(auto)]
 
 ghost use Rattle.core_run.specs.Laws.{LeadsMore, LeadsOn, LeadsToEvents, CommitsAreShown, RepliesAreLawful, OutsAreLawful, Headline};
-ghost use Rattle.core_run.specs.Calls.{ComesFirst, ComesMore, CallsLead};
+ghost use Rattle.core_run.specs.Calls.{StandsFirst, StandsMore, CallsLead, AnswersAreRight};
 
 /// One event more leads to the situation after it.
 pub fn leads_more()
@@ -55,17 +55,25 @@ pub fn headline()
     core_law::headline();
 }
 
-/// No event leads a core to where it stands.
-pub fn comes_first()
-    ensures { ComesFirst }
+/// A core stands after no events where it stands.
+pub fn stands_first()
+    ensures { StandsFirst }
 {}
 
-/// One event more that a core takes leads to the situation for which it stands then.
-pub fn comes_more()
-    ensures { ComesMore }
+/// A core stands after the events so far and one more that it takes.
+pub fn stands_more()
+    ensures { StandsMore }
 {}
 
-/// Events that a core takes, one after the other, lead to the situation for which it stands at last.
+/// A core stands after the events that it takes, one after the other.
 pub fn calls_lead()
     ensures { CallsLead }
 {}
+
+/// All that the calls of a core answered from its start on is right: each reply is the text of a lawful one, and each block has right rows.
+pub fn answers_are_right()
+    ensures { AnswersAreRight }
+{
+    replies_are_lawful();
+    headline();
+}
