@@ -1,17 +1,15 @@
 -- All that the calls of a core answered is right.
-use Rattle.std.proofs.Common.{◌≡◌, ℕ, Bool, zero, suc, List, [], ◌∷◌, ◌++◌, map, refl, sym, ◌∙◌, ap, subst, Option, None, Some}
+use Rattle.std.proofs.Common.{◌≡◌, ℕ, Bool, List, [], ◌∷◌, ◌++◌, map, refl, sym, ◌∙◌, ap, subst, Option, None, Some}
 use Rattle.std.specs.List.{slice_get, AllByRecursion}
 use Rattle.std.specs.Prelude.{IsSomeAnd}
 use Rattle.shape_base.specs.declared.handle.Handle.{Handle}
 use Rattle.shape_base.specs.declared.offset.Offset.{Offset}
-use Rattle.shape_base.specs.declared.history.History.{History}
 use Rattle.shape_base.specs.Shape.{Keyed}
 use Rattle.http_edge.specs.World.{World}
 use Rattle.http_edge.specs.Lawful.{Asked}
 use Rattle.http_edge.specs.ReplyText.{reply_text}
 use Rattle.fold_client.specs.Following.{Heard}
 use Rattle.fold_client.specs.Rows.{keyed_row}
-use Rattle.core_clients.specs.Outs.{IsOfClient}
 use Rattle.core_events.specs.declared.event.Event.{Event}
 use Rattle.core_events.specs.declared.out.Out as program
 use Rattle.core_events.specs.declared.out.Out.TheVariants as outs
@@ -30,7 +28,7 @@ use Rattle.core_run.specs.Steps.{Step, Leads, told_in}
 use Rattle.core_run.specs.Laws.{HasLawful, RepliesAreLawful, Headline}
 use Rattle.core_run.specs.Calls.{ArePutOut, IsLawfulText, AreRightRows, IsRightAnswer, AreRightAnswers, AnswersAreRight}
 use Rattle.core_run.proofs.Leading.{went}
-use Rattle.core_run.proofs.Giving.{IsAnswered, WasGiven, IsGivenAmong, AreGiven, Stay, stay_same, stay_trans, Tells, each}
+use Rattle.core_run.proofs.Giving.{IsAnswered, IsGivenAmong, AreGiven, Stay, stay_same, stay_trans, Tells, each}
 use Rattle.core_run.proofs.Whole.{lawful_at}
 
 -- ---- the replies of one step

@@ -1,5 +1,5 @@
 -- What the calls of a core lead to.
-use Rattle.std.proofs.Common.{◌≡◌, List, [], ◌∷◌, ◌++◌, refl, sym, ◌∙◌, ap, subst, append_assoc, Option, Ok}
+use Rattle.std.proofs.Common.{◌≡◌, List, [], ◌∷◌, ◌++◌, refl, sym, subst, append_assoc}
 use Rattle.std.proofs.lemmas.List.{append-nil}
 use Rattle.core_events.specs.declared.event.Event.{Event}
 use Rattle.core_events.specs.declared.out.Out.{Out}
@@ -7,9 +7,8 @@ use Rattle.core_law.specs.Situation.{Options}
 use Rattle.sync_core.specs.declared.stepping.Core.{Core}
 use Rattle.sync_core.specs.Reading.{Reading}
 use Rattle.sync_core.specs.Run.{Situation, Turn, Goes, Stops, IsRead, turned}
-use Rattle.sync_core.specs.Core as cores
-use Rattle.sync_core.specs.Core.{Stands, PutsOut, GoesOn, Takes}
-use Rattle.core_run.specs.Steps.{Step, Leads}
+use Rattle.sync_core.specs.Core.{PutsOut, GoesOn}
+use Rattle.core_run.specs.Steps.{Step}
 use Rattle.core_run.specs.Calls.{ArePutOut, StandsAfter, StandsFirst, StandsMore, TakesAll, CallsLead}
 use Rattle.core_run.proofs.Leading.{leads_more}
 

@@ -1,5 +1,5 @@
 -- The commits of the server are those that the stream shows.
-use Rattle.std.proofs.Common.{◌≡◌, ℕ, List, [], ◌∷◌, ◌++◌, refl, sym, ◌∙◌, ap, subst, Option}
+use Rattle.std.proofs.Common.{◌≡◌, List, [], ◌∷◌, ◌++◌, refl, sym, ◌∙◌, ap, subst, Option}
 use Rattle.shape_base.specs.declared.change.Tx.{Tx}
 use Rattle.shape_base.specs.Transactions.{LsnsRise}
 use Rattle.tx_assembler.specs.Stream.{FedIsShown, ShownRise}
@@ -9,10 +9,9 @@ use Rattle.core_law.specs.Situation.{Options}
 use Rattle.core_law.specs.Situation as law
 use Rattle.core_law.specs.Clients.{Out}
 use Rattle.core_law.specs.Clients as turns
-use Rattle.core_law.specs.Run as law_run
 use Rattle.core_law.specs.Run.{Committed, turn_of, next_of}
 use Rattle.core_machine.specs.Faults.{under_way}
-use Rattle.sync_core.specs.Stream.{Fault, Stream, stretch_of, done_in, commits_of, anew}
+use Rattle.sync_core.specs.Stream.{Fault, Stream, commits_of, anew}
 use Rattle.sync_core.specs.Reading.{Reading, Passes, Brings, Misfits}
 use Rattle.sync_core.specs.Run.{Situation, at_start, Goes, IsRead, stream_after, shown_since, shape_of, said_to, turned}
 use Rattle.core_run.specs.Steps.{Step, Leads}

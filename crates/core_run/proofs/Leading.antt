@@ -11,9 +11,9 @@ use Rattle.core_law.specs.Run.{turn_of, next_of, outs_of, after, told}
 use Rattle.core_law.specs.Laws.{IsRoutedEvent}
 use Rattle.sync_core.specs.Stream.{Fault}
 use Rattle.sync_core.specs.Reading.{Reading, Passes, Brings, Misfits}
-use Rattle.sync_core.specs.Run.{Situation, at_start, Goes, Stops, IsRead, stream_after, moved, goes_by, turned}
+use Rattle.sync_core.specs.Run.{Situation, at_start, Goes, IsRead, stream_after, moved, goes_by, turned}
 use Rattle.core_run.specs.Steps.{Step, IsTaken, Leads, brought_by, brought_in, told_in}
-use Rattle.core_run.specs.Laws.{LeadsMore, LeadsBy, LeadsOn, ComesTo, LeadsToEvents}
+use Rattle.core_run.specs.Laws.{LeadsMore, LeadsOn, LeadsToEvents}
 use Rattle.core_run.proofs.Readings.{routed_read}
 
 -- ---- one event more

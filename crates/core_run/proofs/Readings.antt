@@ -1,6 +1,6 @@
 -- What events are read as: what they ask for is what a GET is answered, and which of them bring commits.
-use Rattle.std.proofs.Common.{◌≡◌, ℕ, ◌⊎◌, inl, inr, Bool, true, false, if◌then◌else◌, List, [], ◌∷◌, ◌++◌, map, filter, codes, refl, sym, ◌∙◌, ap, subst, Option, None, Some, Result, Ok, Err}
-use Rattle.std.specs.Prelude.{IfSome, IsSomeAnd}
+use Rattle.std.proofs.Common.{◌≡◌, ℕ, inl, inr, Bool, true, false, if◌then◌else◌, List, [], ◌∷◌, ◌++◌, map, filter, codes, sym, subst, Option, None, Some, Result, Ok, Err}
+use Rattle.std.specs.Prelude.{IfSome}
 use Rattle.std.specs.List.{AllByRecursion}
 use Rattle.std.specs.Str.{IsUtf8}
 use Rattle.form_urlencoded.specs.Form.{parse}
@@ -15,15 +15,12 @@ use Rattle.pg_dialogue.specs.Course.{Stand, Wants, Refused, Done, course_of}
 use Rattle.shape_snapshot.specs.declared.faults.SnapError.{SnapError}
 use Rattle.shape_snapshot.specs.declared.faults.SnapError.TheVariants as errors
 use Rattle.shape_snapshot.specs.Refusals.{seen_of}
-use Rattle.http_edge.specs.declared.error_code.ErrorCode.{ErrorCode}
-use Rattle.http_edge.specs.declared.error_code.ErrorCode.TheVariants as replies
 use Rattle.http_edge.specs.declared.request.Request.{Request}
 use Rattle.http_edge.specs.declared.request.HeadError.{HeadError}
 use Rattle.http_edge.specs.declared.request.HeadError.TheVariants as heads
-use Rattle.http_edge.specs.declared.refusal.Refusal.TheVariants as refusals
 use Rattle.http_edge.specs.Parameters.{Pair, AreTexts}
-use Rattle.http_edge.specs.Route.{Routed, IsRouted, RequestTried}
-use Rattle.http_edge.specs.Lawful.{Asked, AsksFor}
+use Rattle.http_edge.specs.Route.{Routed, IsRouted}
+use Rattle.http_edge.specs.Lawful.{AsksFor}
 use Rattle.fold_client.specs.declared.client.Query.{Query}
 use Rattle.fold_client.specs.Client.{nothing_held}
 use Rattle.fold_client.specs.Target.{target_text}
@@ -31,18 +28,16 @@ use Rattle.fold_client.specs.TargetRead.{HasTarget}
 use Rattle.core_clients.specs.QueryForm.{IsQueryForm, alone, values_under}
 use Rattle.core_events.specs.declared.event.Event.{Event}
 use Rattle.core_events.specs.declared.event.Event.TheVariants as events
-use Rattle.core_events.specs.declared.out.Unfit.TheVariants as unfit
 use Rattle.core_law.specs.Situation.{Options, Shape}
 use Rattle.core_law.specs.Situation as law
-use Rattle.core_law.specs.Steps.{Fault, id_before}
+use Rattle.core_law.specs.Steps.{id_before}
 use Rattle.core_law.specs.Run as law_run
 use Rattle.core_law.specs.Run.{RequestCame, HeadCut, SnapshotCame, SnapshotEnded, Committed, Remove, Moment, Joined, SendNext, Receive, Watch}
-use Rattle.core_law.specs.Laws as laws
-use Rattle.core_law.specs.Laws.{get_of, IsFirst, IsRoutedEvent}
+use Rattle.core_law.specs.Laws.{get_of, IsRoutedEvent}
 use Rattle.core_machine.specs.Faults.{under_way}
 use Rattle.core_server.specs.Snapshots.{refusal_in, event_for, came_by}
-use Rattle.sync_core.specs.Reading.{Reading, Passes, Brings, Misfits, asked_as, IsRequest, refused_head, IsOfHead, IsHeadRead, ReadsHead, IsJoining, ReadsQuery}
-use Rattle.sync_core.specs.Run.{Situation, IsRead, fault_for, end_for, brings, by_refusal, judged, judged_some, by_stand, shape_of, piece_for, snapshot_for, said_to}
+use Rattle.sync_core.specs.Reading.{Reading, Passes, Brings, Misfits, asked_as, IsOfHead, ReadsHead, ReadsQuery}
+use Rattle.sync_core.specs.Run.{Situation, IsRead, end_for, brings, by_refusal, judged, judged_some, by_stand, shape_of, piece_for, snapshot_for, said_to}
 
 -- ---- what is routed
 

@@ -1,5 +1,5 @@
 -- What a stream shows only grows.
-use Rattle.std.proofs.Common.{◌≡◌, ℕ, Bool, true, false, List, [], ◌∷◌, ◌++◌, length, map, drop, append_assoc, refl, sym, ◌∙◌, ap}
+use Rattle.std.proofs.Common.{◌≡◌, ℕ, Bool, true, false, List, [], ◌∷◌, ◌++◌, length, drop, append_assoc, refl, sym, ◌∙◌, ap}
 use Rattle.std.specs.Bool.{if◌then◌else◌}
 use Rattle.std.proofs.Math.Seq.{drop-append_seam}
 use Rattle.std.proofs.lemmas.List.{append-nil, map-append}
@@ -13,9 +13,8 @@ use Rattle.tx_assembler.specs.declared.answer.Fed.TheVariants as answers
 use Rattle.tx_assembler.specs.Answers.{Answer}
 use Rattle.tx_assembler.specs.Situation as assembler
 use Rattle.tx_assembler.specs.Feeding.{turn_of}
-use Rattle.tx_assembler.specs.Shown.{Stretch, Sent, messages_of, shown}
-use Rattle.tx_assembler.specs.Stream.{after_turn, told, answers_to, after_all, at_start, reopened, answers_over, if_given, given_in, given_over, sent, FedIsShown}
-use Rattle.core_events.specs.declared.event.Event.{Event}
+use Rattle.tx_assembler.specs.Shown.{Stretch, messages_of, shown}
+use Rattle.tx_assembler.specs.Stream.{after_turn, told, answers_to, after_all, at_start, reopened, answers_over, given_in, given_over, sent, FedIsShown}
 use Rattle.core_events.specs.declared.event.Event.TheVariants as events
 use Rattle.sync_core.specs.Stream.{Stream, Item, Read, Unread, Ended, Faulty, message_then, messages_in, stretch_of, done_in, commits_of, anew, is_over, item_of, in_frames, with_one, with_item, with_items, Framed, with_piece}
 use Rattle.sync_core.specs.Stream as streams

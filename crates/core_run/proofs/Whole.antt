@@ -1,5 +1,5 @@
 -- Whole runs over bytes: their replies are lawful, and their blocks are right.
-use Rattle.std.proofs.Common.{◌≡◌, ℕ, Bool, zero, suc, List, [], ◌∷◌, length, take, map, refl, sym, ◌∙◌, ap, subst}
+use Rattle.std.proofs.Common.{◌≡◌, ℕ, Bool, zero, suc, List, [], ◌∷◌, length, take, map, sym, ◌∙◌, ap, subst}
 use Rattle.std.specs.List.{slice_get, AllByRecursion}
 use Rattle.std.specs.Prelude.{IfSome, IsSomeAnd}
 use Rattle.shape_base.specs.declared.change.Tx.{Tx}
@@ -8,19 +8,18 @@ use Rattle.shape_base.specs.declared.served.Served.{Served}
 use Rattle.shape_base.specs.Tables.{commits_of}
 use Rattle.shape_base.specs.Transactions.{meaning}
 use Rattle.tx_assembler.specs.Shown.{shown}
-use Rattle.core_events.specs.declared.event.Event.{Event}
 use Rattle.http_edge.specs.World.{World}
 use Rattle.http_edge.specs.Lawful.{Asked, IsLawful}
 use Rattle.fold_client.specs.Following.{Heard}
 use Rattle.core_law.specs.Situation.{Options, Exchange, world_of}
 use Rattle.core_law.specs.Situation as law
 use Rattle.core_law.specs.Clients.{Out, Gives, Cut, Block, Refetched, Refused}
-use Rattle.core_law.specs.Run.{after, told}
+use Rattle.core_law.specs.Run.{told}
 use Rattle.core_law.specs.Laws as laws
 use Rattle.core_law.specs.Laws.{IsLawfulExchange, IsRightOut, AreOfRequests}
-use Rattle.sync_core.specs.Run.{Situation, at_start}
-use Rattle.core_run.specs.Steps.{Step, Leads, brought_in, told_in}
-use Rattle.core_run.specs.Laws.{stretches_of, ComesTo, LeadsToEvents, CommitsAreShown, IsToldBy, RepliesAreLawful, HasLawful, IsLawfulOut, OutsAreLawful, AreRight, Headline}
+use Rattle.sync_core.specs.Run.{Situation}
+use Rattle.core_run.specs.Steps.{brought_in, told_in}
+use Rattle.core_run.specs.Laws.{stretches_of, LeadsToEvents, CommitsAreShown, IsToldBy, RepliesAreLawful, HasLawful, IsLawfulOut, OutsAreLawful, Headline}
 use Rattle.core_run.proofs.Giving.{WasGiven, IsGivenAmong, IsToldAmong, replies_are_given}
 
 -- what a history owes the events that a run comes to

@@ -1,6 +1,6 @@
 -- One run over bytes that meets every premise: a client joins, asks and takes a block without rows, a commit comes in four messages, the stream begins anew, and the client takes what the commit brought.
-use Rattle.std.proofs.Common.{◌≡◌, ℕ, ◌<◌, ltb, inl, inr, zero, suc, Bool, true, false, List, [], ◌∷◌, ◌++◌, map, take, drop, length, refl, sym, ◌∙◌, ap, subst, arith, lit<, lit≤, Option, None, Some, IfSome, Ok, Err, codes}
-use Rattle.std.specs.List.{slice_get, list_all, AllByRecursion, IsDistinct}
+use Rattle.std.proofs.Common.{◌≡◌, ℕ, ◌<◌, ltb, inl, inr, zero, suc, Bool, true, false, List, [], ◌∷◌, ◌++◌, map, take, drop, length, refl, sym, ◌∙◌, ap, subst, arith, lit<, lit≤, None, Some, IfSome, Ok, codes}
+use Rattle.std.specs.List.{slice_get, list_all, IsDistinct}
 use Rattle.std.specs.Str.{is_utf8, IsUtf8, IsAscii}
 use Rattle.std.specs.Fmt.{digits}
 use Rattle.std.proofs.Math.Seq.{drop-append_seam}
