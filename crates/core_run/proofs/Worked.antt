@@ -53,6 +53,7 @@ use Rattle.core_events.specs.declared.event.Event.{Event}
 use Rattle.core_events.specs.declared.event.Event.TheVariants as events
 use Rattle.core_law.specs.Situation.{Options, Shape, shape_at}
 use Rattle.core_law.specs.Situation as law
+use Rattle.core_law.specs.Clients.{Out, Gives, Cut, Block, Refetched, Refused}
 use Rattle.core_law.specs.Clients as turns
 use Rattle.core_law.specs.Run as law_run
 use Rattle.core_law.specs.Run.{SnapshotCame, Committed, Moment, Joined, SendNext, Receive, turn_of, next_of, outs_of}
@@ -457,6 +458,25 @@ honest_among : (n : ℕ) (x : Shape) → shape_at (shape ∷ []) n ≡ Some x �
 honest_among zero x at = cc
 honest_among (suc zero) x at = subst IsHonestAt (same_some shape x at) honest_one
 honest_among (suc (suc n)) x at = cc
+
+-- ---- what is put out
+
+has_commit : last.server.commits ≡ tx ∷ []
+unfolding byte_serialize knows_for digits escape_byte
+has_commit = refl
+
+abbrev blocks_of : List Out → List ℕ
+blocks_of [] = []
+blocks_of (Gives e heard ∷ outs) = blocks_of outs
+blocks_of (Cut e ∷ outs) = blocks_of outs
+blocks_of (Block n handle offset rows ∷ outs) = n ∷ blocks_of outs
+blocks_of (Refetched n ∷ outs) = blocks_of outs
+blocks_of (Refused n status ∷ outs) = blocks_of outs
+
+-- the client is up to date
+first_block : blocks_of (outs_of (turn_of options ready (Receive 0 0))) ≡ 0 ∷ []
+unfolding byte_serialize knows_for digits escape_byte
+first_block = refl
 
 -- ---- the premises
 
