@@ -1,0 +1,11 @@
+pub mod Readings
+pub mod Leading
+pub mod Turns
+pub mod Streams
+pub mod Commits
+pub mod Giving
+pub mod Whole
+pub mod Calls
+pub mod Answering
+pub mod Worked
+pub mod Lemmas
