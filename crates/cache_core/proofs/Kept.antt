@@ -1,8 +1,7 @@
 -- The entries of a cache beside those of its map.
-use Rattle.std.proofs.Common.{◌≡◌, ◌==◌, eq-eqb, ne_eqb, ℕ, suc, ◌+◌, ◌-◌, ◌*◌, ◌≤◌, ◌<◌, nat_lt, Bool, true, false, cond, List, [], ◌∷◌, length, map, take, refl, sym, ◌∙◌, ap, subst, Option, None, Some, is_some, string_bytes, arith}
+use Rattle.std.proofs.Common.{◌≡◌, ℕ, suc, ◌+◌, ◌-◌, ◌*◌, ◌≤◌, ◌<◌, nat_lt, Bool, true, false, cond, List, [], ◌∷◌, length, map, take, refl, sym, ◌∙◌, ap, subst, Option, None, Some, is_some, string_bytes, arith}
 use Rattle.std.proofs.lemmas.List.{take_all, take-map, length-map}
 use Rattle.std.specs.Prelude.{String, if◌then◌else◌}
-use Rattle.std.specs.Bool.{Decides}
 use Rattle.std.specs.List.{AllByRecursion, IsDistinct, find}
 use Rattle.std.specs.Map.{keys_of, lookup, lookup_entry, remove_entry}
 use Rattle.std.specs.Option.{option_map, option_map_or}
@@ -10,10 +9,8 @@ use Rattle.std.specs.Str.{bytes_eq}
 use Rattle.std.specs.String.{string_eq}
 use Rattle.lru.specs.LruCache as lru
 use Rattle.lru.proofs.CallerLemmas.{Contains-lookup_entry}
-use Rattle.shape_base.specs.declared.reply.Reply.{Reply}
-use Rattle.shape_base.specs.Tables.{same_text}
 use Rattle.shape_base.proofs.Lemmas.{Decides-same_text}
-use Rattle.cache_core.specs.Entries.{Cached, Contents, is_for, others, after_put, is_young, if_young, found, promoted, after_get}
+use Rattle.cache_core.specs.Entries.{Cached, Contents, is_for, others, in_front, is_young, if_young, found, promoted, after_get}
 use Rattle.cache_core.specs.Inside.{cached, entries_in}
 use Rattle.cache_core.specs.declared.cache.Kept.{Kept}
 
@@ -136,20 +133,18 @@ module _ {A : Type 0} where
     ∙ ap (λ r. take c.cap (cached (k, v) ∷ r)) (others_in (string_bytes k) c.entries valid.0)
 
   -- a reply that is put goes first
-  pub put_in : (c : lru.LruCache (String A) Kept) (k : String A) (v : Kept) → lru.IsValid string_eq c → map cached (lru.put_entries string_eq c k v) ≡ take c.cap (cached (k, v) ∷ others (string_bytes k) (map cached c.entries))
+  pub put_in : (c : lru.LruCache (String A) Kept) (k : String A) (v : Kept) → lru.IsValid string_eq c → map cached (lru.put_entries string_eq c k v) ≡ in_front c.cap (cached (k, v)) (map cached c.entries)
   put_in c k v valid = put_front c k v (lookup_entry (is_key (string_bytes k)) c.entries) valid refl
 
   -- ---- what the map tells of a call
 
-  pub put_age_0 : (c n : lru.LruCache (String A) Kept) (q : List ℕ) (e : Cached) (before : Contents) → lru.IsValid string_eq c → n ≡ lru.lru_cache (remove_entry (is_key q) c.entries) c.cap → q ≡ e.target → contents c.cap (entries_in c) ≡ before → e.reply.max_age ≡ 0 → entries_in n ≡ after_put before.capacity e before.entries
-  put_age_0 c n q e before valid is key was age =
-    let none : (e.reply.max_age == 0) ≡ true = eq-eqb e.reply.max_age 0 age in
-    ap entries_in is ∙ others_in q c.entries valid.0 ∙ ap (λ (x : List ℕ). others x (map cached c.entries)) key ∙ ap (λ (b : Contents). others e.target b.entries) was ∙ sym (ap (λ (b : Bool). if b then others e.target before.entries else take before.capacity (e ∷ others e.target before.entries)) none)
+  pub removes : (c n : lru.LruCache (String A) Kept) (q t : List ℕ) (before : Contents) → lru.IsValid string_eq c → n ≡ lru.lru_cache (remove_entry (is_key q) c.entries) c.cap → q ≡ t → contents c.cap (entries_in c) ≡ before → contents n.cap (entries_in n) ≡ contents before.capacity (others t before.entries)
+  removes c n q t before valid is key was =
+    ap (λ (x : lru.LruCache (String A) Kept). contents x.cap (entries_in x)) is ∙ ap (contents c.cap) (others_in q c.entries valid.0 ∙ ap (λ (x : List ℕ). others x (entries_in c)) key) ∙ ap (λ (b : Contents). contents b.capacity (others t b.entries)) was
 
-  pub put_aged : (c n : lru.LruCache (String A) Kept) (k : String A) (v : Kept) (e : Cached) (before : Contents) → lru.IsValid string_eq c → n ≡ lru.lru_cache (lru.put_entries string_eq c k v) c.cap → cached (k, v) ≡ e → contents c.cap (entries_in c) ≡ before → (e.reply.max_age ≡ 0 → ⊥) → entries_in n ≡ after_put before.capacity e before.entries
-  put_aged c n k v e before valid is new was age =
-    let some : (e.reply.max_age == 0) ≡ false = ne_eqb e.reply.max_age 0 age in
-    ap entries_in is ∙ put_in c k v valid ∙ ap (λ (x : Cached). take c.cap (x ∷ others x.target (map cached c.entries))) new ∙ ap (λ (b : Contents). take b.capacity (e ∷ others e.target b.entries)) was ∙ sym (ap (λ (b : Bool). if b then others e.target before.entries else take before.capacity (e ∷ others e.target before.entries)) some)
+  pub keeps : (c n : lru.LruCache (String A) Kept) (k : String A) (v : Kept) (e : Cached) (before : Contents) → lru.IsValid string_eq c → n ≡ lru.lru_cache (lru.put_entries string_eq c k v) c.cap → cached (k, v) ≡ e → contents c.cap (entries_in c) ≡ before → contents n.cap (entries_in n) ≡ contents before.capacity (in_front before.capacity e before.entries)
+  keeps c n k v e before valid is new was =
+    ap (λ (x : lru.LruCache (String A) Kept). contents x.cap (entries_in x)) is ∙ ap (contents c.cap) (put_in c k v valid ∙ ap (λ (x : Cached). in_front c.cap x (entries_in c)) new) ∙ ap (λ (b : Contents). contents b.capacity (in_front b.capacity e b.entries)) was
 
   -- a get of a target that the map finds young
   pub record Gets (c n : lru.LruCache (String A) Kept) (q t : List ℕ) (now : ℕ) (before : Contents) (r : Option Kept) : Type 0 where

@@ -1,6 +1,6 @@
 -- What is found was put last.
 use Rattle.std.proofs.Common.{◌≡◌, ◌==◌, ℕ, zero, suc, Bool, true, false, cond, List, [], ◌∷◌, take, refl, sym, ◌∙◌, ap, subst, Option, None, Some, IfSome}
-use Rattle.std.specs.Prelude.{if◌then◌else◌, not}
+use Rattle.std.specs.Prelude.{if◌then◌else◌}
 use Rattle.std.specs.List.{find}
 use Rattle.std.specs.Option.{option_map}
 use Rattle.shape_base.specs.declared.reply.Reply.{Reply}

@@ -1,5 +1,5 @@
 -- What a cache keeps: a list of replies, the most recently used first.
-use Rattle.std.specs.Prelude.{ℕ, ◌-◌, ◌*◌, ◌==◌, nat_lt, Bool, true, false, not, if◌then◌else◌, List, [], ◌∷◌, filter, take, Option, None, Some}
+use Rattle.std.specs.Prelude.{ℕ, ◌-◌, ◌*◌, ◌==◌, nat_lt, Bool, not, if◌then◌else◌, List, ◌∷◌, filter, take, Option, None, Some}
 use Rattle.std.specs.List.{find}
 use Rattle.shape_base.specs.declared.reply.Reply.{Reply}
 use Rattle.shape_base.specs.Tables.{same_text}
@@ -23,9 +23,13 @@ is_for target e = same_text target e.target
 abbrev pub others : List ℕ → List Cached → List Cached
 others target = filter (λ e. not (is_for target e))
 
--- The entries after a put: a reply of age 0 is not kept, and none for its target stays. Any other goes first, before those for the other targets, and the last goes out where there would be too many.
+-- One goes first, before those for the other targets, and the last goes out where there would be too many.
+abbrev pub in_front : ℕ → Cached → List Cached → List Cached
+in_front capacity e es = take capacity (e ∷ others e.target es)
+
+-- The entries after a put: a reply of age 0 is not kept, and none for its target stays; any other goes first.
 abbrev pub after_put : ℕ → Cached → List Cached → List Cached
-after_put capacity e es = if e.reply.max_age == 0 then others e.target es else take capacity (e ∷ others e.target es)
+after_put capacity e es = if e.reply.max_age == 0 then others e.target es else in_front capacity e es
 
 -- It is younger than its age: fewer milliseconds passed since its put. A moment before the put counts as that of the put.
 abbrev pub is_young : ℕ → Cached → Bool

@@ -1,5 +1,5 @@
 -- The uses of a cache from its start on.
-use Rattle.std.specs.Prelude.{◌≡◌, ℕ, true, if◌then◌else◌, List, [], ◌∷◌, Option, None, Some, IfSome}
+use Rattle.std.specs.Prelude.{◌≡◌, ℕ, true, if◌then◌else◌, List, [], ◌∷◌, Option, None, Some}
 use Rattle.shape_base.specs.declared.reply.Reply.{Reply}
 use Rattle.cache_core.specs.Entries.{Cached, is_for, is_young, after_put, after_get}
 

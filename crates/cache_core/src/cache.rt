@@ -1,7 +1,7 @@
 //! The cache.
 ghost use Rattle.std.specs.Prelude.{◌≡◌, ℕ, ◌≤◌, [], List, true, is_some, IsOk, IfOk, IfSome, OnOk, OnErr};
 ghost use Rattle.std.specs.Option.{option_map, option_copied};
-ghost use Rattle.cache_core.specs.Entries.{after_put, after_get, found, is_young};
+ghost use Rattle.cache_core.specs.Entries.{others, in_front, after_put, after_get, found, is_young};
 ghost use Rattle.cache_core.specs.Inside.{entries_in};
 ghost use Rattle.cache_core.specs.Uses.{Use, entries_after, IsLastPut};
 
@@ -68,6 +68,27 @@ impl Cache {
         Ok(Cache { alloc, replies })
     }
 
+    /// Takes out the reply that is kept for a target.
+    fn remove(&mut self, target: &Text)
+        ensures { self.new ≡ record { capacity = self.old.capacity; entries = others target.now self.old.entries } }
+    {
+        // The length tells that no two replies are for one target.
+        let _count = self.replies.len();
+        let _was = self.replies.pop(target.as_str());
+    }
+
+    /// Keeps a reply as the most recently used.
+    fn keep(&mut self, target: &Text, kept: Kept) -> Result<(), OutOfMemory>
+        ensures ok { OnOk result (self.new ≡ record { capacity = self.old.capacity; entries = in_front self.old.capacity (record { target = target.now; reply = kept.reply; put_at = kept.put_at }) self.old.entries }) }
+        ensures err { OnErr result (self.new ≡ self.old) }
+    {
+        // The length tells that no two replies are for one target, and that there are no more than the capacity.
+        let _count = self.replies.len();
+        let key = String::from_str(self.alloc, target.as_str())?;
+        let _was = self.replies.put(key, kept)?;
+        Ok(())
+    }
+
     /// Puts a reply for a target at the moment `now`, in milliseconds, as the most recently used. The least recently used goes out
     /// where there would be too many.
     ///
@@ -78,16 +99,11 @@ impl Cache {
         ensures capacity { self.new.capacity ≡ self.old.capacity }
         ensures age_0 { reply.max_age ≡ 0 → IsOk result }
     {
-        // That no two replies are for one target, and that there are no more than the capacity, is what the length tells.
-        let _count = self.replies.len();
         if reply.max_age == 0 {
-            let _was = self.replies.pop(target.as_str());
+            self.remove(&target);
             return Ok(());
         }
-        let key = String::from_str(self.alloc, target.as_str())?;
-        let kept = Kept { reply, put_at: now };
-        let _was = self.replies.put(key, kept)?;
-        Ok(())
+        self.keep(&target, Kept { reply, put_at: now })
     }
 
     /// The last reply that was put for the target, while it is younger than its age at the moment `now`, in milliseconds. It becomes

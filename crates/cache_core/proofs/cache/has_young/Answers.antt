@@ -1,8 +1,7 @@
-use Rattle.std.proofs.Common.{◌∙◌, sym, ap, List, ℕ, Some, None, is_some}
-use Rattle.std.specs.Map.{lookup}
+use Rattle.std.proofs.Common.{◌∙◌, ap, List, ℕ, is_some}
 use Rattle.cache_core.specs.Entries.{found}
 use Rattle.cache_core.specs.Inside.{entries_in}
-use Rattle.cache_core.proofs.Kept.{is_key, young_in, none_in}
+use Rattle.cache_core.proofs.Kept.{young_in, none_in}
 use Rattle.cache_core.proofs.cache.has_young.Goals as goal
 
 pub returns-in-Some : goal.returns-in-Some

@@ -1,7 +1,6 @@
-use Rattle.std.proofs.Common.{◌≡◌, refl, sym, ◌∙◌, true, false, Option, Some, None}
+use Rattle.std.proofs.Common.{refl, sym, ◌∙◌, Some}
 use Rattle.cache_core.proofs.Kept.{Gets, ends, gives, never}
 use Rattle.cache_core.proofs.Uses.{given_last}
-use Rattle.cache_core.specs.declared.cache.Kept.{Kept}
 use Rattle.cache_core.proofs.cache.Cache.get.Goals as goal
 
 pub returns-in_err-kept : goal.returns-in_err-kept
