@@ -4,3 +4,6 @@ pub mod Texts
 pub mod Checking
 pub mod Deciding
 pub mod Breaking
+pub mod KeyOrder
+pub mod Selected
+pub mod Widths
