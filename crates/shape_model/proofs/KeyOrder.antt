@@ -10,7 +10,7 @@ use Rattle.std.proofs.Math.Utf8.{encode, encodes}
 use Rattle.shape_base.specs.declared.definition.TableDef.{TableDef}
 use Rattle.shape_base.specs.declared.value.Value.TheVariants.{Null}
 use Rattle.shape_base.specs.Tables.{Values}
-use Rattle.shape_base.specs.Shape.{quoted, name_at, put_place, by_name}
+use Rattle.shape_base.specs.Shape.{quoted, name_at, put_place}
 use Rattle.shape_base.proofs.Lemmas.{IsUtf8-quoted}
 use Rattle.shape_model.specs.Checks.{value_text, values_text}
 
@@ -56,8 +56,3 @@ put_goes_on d order i p q lt at before so_far =
     ∙ ap (λ (xs : List ℕ). take i order ++ xs) here
     ∙ sym (append_assoc (take i order) (q ∷ []) (put_place d p (drop (i + 1) order)))
     ∙ ap (λ (xs : List ℕ). xs ++ put_place d p (drop (i + 1) order)) (sym more)
-
-pub put_next : (d : TableDef) (places : List ℕ) (left : ℕ) (before after : List ℕ) → left < length places → before ≡ by_name d (drop (left + 1) places) → after ≡ put_place d (get_or places left 0) before → after ≡ by_name d (drop left places)
-put_next d places left before after lt so_far put =
-    let next : drop left places ≡ get_or places left 0 ∷ drop (left + 1) places = rw add-one (drop-cons places left 0 lt) in
-    put ∙ ap (put_place d (get_or places left 0)) so_far ∙ sym (ap (by_name d) next)

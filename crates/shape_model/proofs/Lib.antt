@@ -5,5 +5,4 @@ pub mod Checking
 pub mod Deciding
 pub mod Breaking
 pub mod KeyOrder
-pub mod Selected
 pub mod Widths
