@@ -13,4 +13,4 @@ mod tables;
 pub use folds::{ModelError, fold};
 pub use good::{HistoryError, good_history};
 pub use rows::shape_rows;
-pub use tables::table_after;
+pub use tables::{def_after, table_after};

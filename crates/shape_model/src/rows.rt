@@ -13,7 +13,9 @@ ghost use Rattle.shape_model.specs.Rows.{AreShapeRows, CannotRead, HasUnread};
 use super::folds::{ModelError, Shown, listed};
 use super::keyed::{cells_at, in_name_order, key_text};
 use super::tables::table_after;
-use shape_base::{History, KeyedRow, KeyedRows, OutOfMemory, Row, RowTest, Rows, is_selected};
+use shape_base::{
+    BadValue, History, KeyedRow, KeyedRows, OutOfMemory, Row, RowTest, Rows, is_selected,
+};
 use std::alloc::Global;
 
 /// A row's key text with its selected cells, whose places stand in byte order of their names.
@@ -52,9 +54,7 @@ fn push_selected<T: RowTest>(
             Ok(())
         }
         Ok(false) => Ok(()),
-        Err(error) => Err(ModelError::BadValue {
-            column: error.column,
-        }),
+        Err(BadValue { column }) => Err(ModelError::BadValue { column }),
     }
 }
 
