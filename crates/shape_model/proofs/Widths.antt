@@ -1,5 +1,5 @@
 -- The rows of a good history are as wide as their definition.
-use Rattle.std.proofs.Common.{◌≡◌, ℕ, zero, suc, true, false, List, [], ◌∷◌, length, take, subst, Option, None, Some, IfSome, ◌==◌}
+use Rattle.std.proofs.Common.{◌≡◌, sym, ◌∙◌, ap, ℕ, zero, suc, true, false, List, [], ◌∷◌, length, take, subst, Option, None, Some, IfSome, ◌==◌}
 use Rattle.std.specs.Bool.{MatchBool, if◌then◌else◌}
 use Rattle.std.specs.Option.{option_map}
 use Rattle.std.specs.List.{list_any, AllByRecursion, slice_get, slice_index_or}
@@ -33,5 +33,10 @@ wide_from h t served k (Some e) d good is =
     subst (λ x. AreWide x (table_after h t k)) there (wide_steps served t h.steps k e (slice_index_or h.base t []) (e ∷ []) good.1 good.0.wide)
 
 -- the rows of a served table after the first k steps
-pub wide_table : (h : History) (t : ℕ) (served : Served) (k : ℕ) (d : TableDef) → IsGoodHistory h → slice_get h.tables t ≡ Some served → def_after h t k ≡ Some d → AreWide d (table_after h t k)
+wide_table : (h : History) (t : ℕ) (served : Served) (k : ℕ) (d : TableDef) → IsGoodHistory h → slice_get h.tables t ≡ Some served → def_after h t k ≡ Some d → AreWide d (table_after h t k)
 wide_table h t served k d good there is = wide_from h t served k (slice_get h.defs t) d (subst (λ o. IfSome o (λ s. IsGoodTable h t s)) there (good.good t)) is
+
+-- the same of rows that were replayed for the table of that definition
+pub wide_rows : (h : History) (served : Served) (k : ℕ) (d came : TableDef) (rows : Table) → came ≡ d → rows ≡ table_after h came.table k → IsGoodHistory h → slice_get h.tables d.table ≡ Some served → def_after h d.table k ≡ Some d → AreWide d rows
+wide_rows h served k d came rows same replayed good there is =
+    subst (AreWide d) (sym (replayed ∙ ap (λ (x : TableDef). table_after h x.table k) same)) (wide_table h d.table served k d good there is)
