@@ -121,16 +121,16 @@ module _ {A : Type 0} where
 
   cut : (cap : ℕ) (e : String A × Kept) (es : List (String A × Kept)) → 0 < cap → map cached (e ∷ take (cap - 1) es) ≡ take cap (cached e ∷ map cached es)
   cut cap e es h = let is : cap ≡ suc (cap - 1) = omega arith in
-    ap (λ r. cached e ∷ r) (sym (take-map cached (cap - 1) es)) ∙ ap (λ (n : ℕ). take n (cached e ∷ map cached es)) (sym is)
+      ap (λ r. cached e ∷ r) (sym (take-map cached (cap - 1) es)) ∙ ap (λ (n : ℕ). take n (cached e ∷ map cached es)) (sym is)
 
   put_front : (c : lru.LruCache (String A) Kept) (k : String A) (v : Kept) (o : Option (String A × Kept)) → lru.IsValid string_eq c → lookup_entry (is_key (string_bytes k)) c.entries ≡ o → map cached (option_map_or (λ e. (e.0, v) ∷ remove_entry (is_key (string_bytes k)) c.entries) o ((k, v) ∷ take (c.cap - 1) c.entries)) ≡ take c.cap (cached (k, v) ∷ others (string_bytes k) (map cached c.entries))
   put_front c k v None valid is = cut c.cap (k, v) c.entries valid.2 ∙ ap (λ r. take c.cap (cached (k, v) ∷ r)) (sym (none_stay (string_bytes k) c.entries is))
   put_front c k v (Some e) valid is =
-    let less = removed (string_bytes k) c.entries e is in
-    let fit : length (cached (k, v) ∷ map cached (remove_entry (is_key (string_bytes k)) c.entries)) ≤ c.cap = omega (arith, length-map (remove_entry (is_key (string_bytes k)) c.entries) cached, valid.1) in
-    ap (λ (x : List ℕ). with_target x v (map cached (remove_entry (is_key (string_bytes k)) c.entries))) (sym (its_key (string_bytes k) c.entries e is))
-    ∙ sym (take_all c.cap _ fit)
-    ∙ ap (λ r. take c.cap (cached (k, v) ∷ r)) (others_in (string_bytes k) c.entries valid.0)
+      let less = removed (string_bytes k) c.entries e is in
+      let fit : length (cached (k, v) ∷ map cached (remove_entry (is_key (string_bytes k)) c.entries)) ≤ c.cap = omega (arith, length-map (remove_entry (is_key (string_bytes k)) c.entries) cached, valid.1) in
+      ap (λ (x : List ℕ). with_target x v (map cached (remove_entry (is_key (string_bytes k)) c.entries))) (sym (its_key (string_bytes k) c.entries e is))
+      ∙ sym (take_all c.cap _ fit)
+      ∙ ap (λ r. take c.cap (cached (k, v) ∷ r)) (others_in (string_bytes k) c.entries valid.0)
 
   -- a reply that is put goes first
   pub put_in : (c : lru.LruCache (String A) Kept) (k : String A) (v : Kept) → lru.IsValid string_eq c → map cached (lru.put_entries string_eq c k v) ≡ in_front c.cap (cached (k, v)) (map cached c.entries)
@@ -140,11 +140,11 @@ module _ {A : Type 0} where
 
   pub removes : (c n : lru.LruCache (String A) Kept) (q t : List ℕ) (before : Contents) → lru.IsValid string_eq c → n ≡ lru.lru_cache (remove_entry (is_key q) c.entries) c.cap → q ≡ t → contents c.cap (entries_in c) ≡ before → contents n.cap (entries_in n) ≡ contents before.capacity (others t before.entries)
   removes c n q t before valid is key was =
-    ap (λ (x : lru.LruCache (String A) Kept). contents x.cap (entries_in x)) is ∙ ap (contents c.cap) (others_in q c.entries valid.0 ∙ ap (λ (x : List ℕ). others x (entries_in c)) key) ∙ ap (λ (b : Contents). contents b.capacity (others t b.entries)) was
+      ap (λ (x : lru.LruCache (String A) Kept). contents x.cap (entries_in x)) is ∙ ap (contents c.cap) (others_in q c.entries valid.0 ∙ ap (λ (x : List ℕ). others x (entries_in c)) key) ∙ ap (λ (b : Contents). contents b.capacity (others t b.entries)) was
 
   pub keeps : (c n : lru.LruCache (String A) Kept) (k : String A) (v : Kept) (e : Cached) (before : Contents) → lru.IsValid string_eq c → n ≡ lru.lru_cache (lru.put_entries string_eq c k v) c.cap → cached (k, v) ≡ e → contents c.cap (entries_in c) ≡ before → contents n.cap (entries_in n) ≡ contents before.capacity (in_front before.capacity e before.entries)
   keeps c n k v e before valid is new was =
-    ap (λ (x : lru.LruCache (String A) Kept). contents x.cap (entries_in x)) is ∙ ap (contents c.cap) (put_in c k v valid ∙ ap (λ (x : Cached). in_front c.cap x (entries_in c)) new) ∙ ap (λ (b : Contents). contents b.capacity (in_front b.capacity e b.entries)) was
+      ap (λ (x : lru.LruCache (String A) Kept). contents x.cap (entries_in x)) is ∙ ap (contents c.cap) (put_in c k v valid ∙ ap (λ (x : Cached). in_front c.cap x (entries_in c)) new) ∙ ap (λ (b : Contents). contents b.capacity (in_front b.capacity e b.entries)) was
 
   -- a get of a target that the map finds young
   pub record Gets (c n : lru.LruCache (String A) Kept) (q t : List ℕ) (now : ℕ) (before : Contents) (r : Option Kept) : Type 0 where
@@ -157,20 +157,20 @@ module _ {A : Type 0} where
 
   pub ends : (c n : lru.LruCache (String A) Kept) (q t : List ℕ) (now : ℕ) (before : Contents) (r : Option Kept) → Gets c n q t now before r → contents n.cap (entries_in n) ≡ contents before.capacity (after_get t now before.entries)
   ends c n q t now before r g =
-    let young : is_some (found q now (map cached c.entries)) ≡ true = ap (λ (x : List ℕ). is_some (found x now (entries_in c))) g.key ∙ g.young in
-    ap (λ (x : lru.LruCache (String A) Kept). contents x.cap (entries_in x)) g.promotes
-    ∙ ap (contents c.cap) (got_in q now c.entries g.valid.0 young ∙ ap (λ (x : List ℕ). after_get x now (entries_in c)) g.key)
-    ∙ ap (λ (b : Contents). contents b.capacity (after_get t now b.entries)) g.was
+      let young : is_some (found q now (map cached c.entries)) ≡ true = ap (λ (x : List ℕ). is_some (found x now (entries_in c))) g.key ∙ g.young in
+      ap (λ (x : lru.LruCache (String A) Kept). contents x.cap (entries_in x)) g.promotes
+      ∙ ap (contents c.cap) (got_in q now c.entries g.valid.0 young ∙ ap (λ (x : List ℕ). after_get x now (entries_in c)) g.key)
+      ∙ ap (λ (b : Contents). contents b.capacity (after_get t now b.entries)) g.was
 
   pub gives : (c n : lru.LruCache (String A) Kept) (q t : List ℕ) (now : ℕ) (before : Contents) (k : Kept) → Gets c n q t now before (Some k) → Some k.reply ≡ option_map (λ (x : Cached). x.reply) (found t now before.entries)
   gives c n q t now before k g =
-    let young : is_some (found q now (map cached c.entries)) ≡ true = ap (λ (x : List ℕ). is_some (found x now (entries_in c))) g.key ∙ g.young in
-    reply_in q now k c.entries g.value young
-    ∙ ap (λ (x : List ℕ). option_map (λ (y : Cached). y.reply) (found x now (entries_in c))) g.key
-    ∙ ap (λ (b : Contents). option_map (λ (y : Cached). y.reply) (found t now b.entries)) g.was
+      let young : is_some (found q now (map cached c.entries)) ≡ true = ap (λ (x : List ℕ). is_some (found x now (entries_in c))) g.key ∙ g.young in
+      reply_in q now k c.entries g.value young
+      ∙ ap (λ (x : List ℕ). option_map (λ (y : Cached). y.reply) (found x now (entries_in c))) g.key
+      ∙ ap (λ (b : Contents). option_map (λ (y : Cached). y.reply) (found t now b.entries)) g.was
 
   -- there is one
   pub never : (c n : lru.LruCache (String A) Kept) (q t : List ℕ) (now : ℕ) (before : Contents) → Gets c n q t now before None → ⊥
   never c n q t now before g =
-    let young : is_some (found q now (map cached c.entries)) ≡ true = ap (λ (x : List ℕ). is_some (found x now (entries_in c))) g.key ∙ g.young in
-    let none = none_in q now c.entries g.value in cc
+      let young : is_some (found q now (map cached c.entries)) ≡ true = ap (λ (x : List ℕ). is_some (found x now (entries_in c))) g.key ∙ g.young in
+      let none = none_in q now c.entries g.value in cc

@@ -1,7 +1,7 @@
 //! The cache.
-ghost use Rattle.std.specs.Prelude.{◌≡◌, ℕ, ◌≤◌, [], List, true, is_some, IsOk, IfOk, IfSome, OnOk, OnErr};
+ghost use Rattle.std.specs.Prelude.{◌≡◌, ℕ, ◌-◌, ◌*◌, ◌≤◌, nat_lt, [], List, is_some, IsOk, IfOk, IfSome, OnOk, OnErr};
 ghost use Rattle.std.specs.Option.{option_map, option_copied};
-ghost use Rattle.cache_core.specs.Entries.{others, in_front, after_put, after_get, found, is_young};
+ghost use Rattle.cache_core.specs.Entries.{others, in_front, after_put, after_get, found};
 ghost use Rattle.cache_core.specs.Inside.{entries_in};
 ghost use Rattle.cache_core.specs.Uses.{Use, entries_after, IsLastPut};
 
@@ -10,6 +10,9 @@ use shape_base::{OutOfMemory, Reply, Text};
 use std::alloc::Global;
 use std::marker::Model;
 use std::num::NonZeroUsize;
+
+/// A second, in milliseconds.
+const SECOND: u64 = 1_000;
 
 /// A reply, and the moment of its put in milliseconds.
 #[derive(Drop)]
@@ -38,9 +41,9 @@ impl Model for Cache {
 impl Kept {
     /// Whether it is younger than its age at a moment. A moment before its put counts as that of the put.
     fn is_young(&self, now: u64) -> bool
-        ensures { result ≡ is_young now (record { target = []; reply = self.now.reply; put_at = self.now.put_at }) }
+        ensures { result ≡ nat_lt (now - self.now.put_at) (1000 * self.now.reply.max_age) }
     {
-        now.saturating_sub(self.put_at) < 1000 * u64::from(self.reply.max_age)
+        now.saturating_sub(self.put_at) < SECOND * u64::from(self.reply.max_age)
     }
 }
 
