@@ -18,14 +18,13 @@ pub record IsUnread (s : Knows) (unread : Values → ℕ → Bool) (row : Values
   pub no_truth : s.truth row ≡ None
   pub least : IsLeast (unread row) column
 
--- the same of the first row of a table that has no truth
+-- the same of the first row of a table that has none
 pub record IsFirstUnread (s : Knows) (unread : Values → ℕ → Bool) (table : Table) (column : ℕ) : Type 0 where
   pub place : ℕ
   pub row : Values
   pub there : slice_get table place ≡ Some row
   pub before : have_truths s (take place table) ≡ true
-  pub no_truth : s.truth row ≡ None
-  pub least : IsLeast (unread row) column
+  pub is_unread : IsUnread s unread row column
 
 -- why a row is not read, unless memory ran out
 abbrev pub CannotRead : Knows → (Values → ℕ → Bool) → Values → ModelError → Type 0
