@@ -4,3 +4,5 @@ pub mod Texts
 pub mod Checking
 pub mod Deciding
 pub mod Breaking
+pub mod KeyOrder
+pub mod Widths

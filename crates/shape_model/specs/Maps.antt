@@ -20,4 +20,5 @@ Folds es rows = option_map fin.entries (fold es) ≡ Some (pairs_of rows)
 -- the first entry that the fold has no value for
 abbrev pub FailsAt : List Entry → ModelError → Type 0
 FailsAt es errors.OutOfMemory = Unit {0}
+FailsAt es (errors.BadValue column) = ⊥
 FailsAt es (errors.BadFold place) = (place < length es) × IsSome (fold (take place es)) × (fold (take (place + 1) es) ≡ None)

@@ -15,11 +15,13 @@ use shape_base::{
 use std::alloc::Global;
 use std::collections::BTreeMap;
 
-/// A fold that has no value.
+/// What has no value.
 #[derive(Debug, Drop)]
 pub enum ModelError {
     /// The place of the first entry that does not find what it needs; places count from 0.
     BadFold { place: u64 },
+    /// The least column that cannot be read, of the first row without a truth.
+    BadValue { column: u32 },
     OutOfMemory,
 }
 
@@ -71,7 +73,8 @@ fn with_values(alloc: Global, news: &Cells, cells: &Cells) -> Result<Cells, OutO
     Ok(made)
 }
 
-type Shown = BTreeMap<Text, Cells>;
+/// Rows by their keys.
+pub(crate) type Shown = BTreeMap<Text, Cells>;
 
 fn inserted(alloc: Global, shown: &mut Shown, entry: &Entry) -> Result<bool, OutOfMemory>
     ensures { IfOk result (λ done. fold_op Insert entry.now.key entry.now.cells (map_in shown.old) ≡ (if done then Some (map_in shown.new) else None)) }
@@ -126,7 +129,8 @@ fn filled(alloc: Global, entries: &Entries) -> Result<Shown, ModelError>
     Ok(shown)
 }
 
-fn listed(alloc: Global, shown: &Shown) -> Result<KeyedRows, OutOfMemory>
+/// The rows in byte order of their keys.
+pub(crate) fn listed(alloc: Global, shown: &Shown) -> Result<KeyedRows, OutOfMemory>
     ensures { IfOk result (λ rows. fin.entries (map_in shown.now) ≡ pairs_of rows) }
 {
     let mut rows = KeyedRows::new(alloc);

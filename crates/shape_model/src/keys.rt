@@ -74,7 +74,7 @@ fn some_lack(key: &Numbers, rows: &Rows) -> bool
 }
 
 /// Adds the text of the value in a place; one that is null or not there has an empty text.
-fn push_value(out: &mut Vec<u8>, row: &Row, place: u64) -> Result<(), OutOfMemory>
+pub(crate) fn push_value(out: &mut Vec<u8>, row: &Row, place: u64) -> Result<(), OutOfMemory>
     ensures more { OnOk result (out.new.items ≡ out.old.items ++ value_text (slice_index_or row.now place Null)) }
     ensures utf8 { OnOk result (IsUtf8 out.old.items → IsUtf8 out.new.items) }
 {

@@ -5,9 +5,12 @@
 mod checks;
 mod folds;
 mod good;
+mod keyed;
 mod keys;
+mod rows;
 mod tables;
 
 pub use folds::{ModelError, fold};
 pub use good::{HistoryError, good_history};
-pub use tables::table_after;
+pub use rows::shape_rows;
+pub use tables::{def_after, table_after};

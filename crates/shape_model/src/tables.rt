@@ -1,10 +1,12 @@
 //! Tables after steps.
-ghost use Rattle.std.specs.Prelude.{◌≡◌, ℕ, suc, ◌<◌, ◌≤◌, ◌++◌, ◌∷◌, [], length, take, drop, IfOk, MatchOption, List, slice_get};
+ghost use Rattle.std.specs.Prelude.{◌≡◌, ℕ, suc, ◌<◌, ◌≤◌, ◌++◌, ◌∷◌, [], length, take, drop, IfOk, MatchOption, List, Some, slice_get};
 ghost use Rattle.shape_base.specs.Tables.{Values, Table, in_place, changed, changes_of, own_of, after_changes, after_step};
 ghost use Rattle.shape_base.specs.Tables as Tables;
+ghost use Rattle.shape_base.specs.Tables.{def_step};
 
 use shape_base::{
-    Change, ChangeKind, Duplicate, History, OutOfMemory, Row, Rows, Step, Tx, are_same_rows,
+    Change, ChangeKind, Duplicate, History, OutOfMemory, Row, Rows, Step, TableDef, Tx,
+    are_same_rows,
 };
 use std::alloc::Global;
 
@@ -123,4 +125,28 @@ pub fn table_after(
         rows = after_one(alloc, history.steps.at(place), table, rows)?;
     }
     Ok(rows)
+}
+
+/// The definition of a table after a step.
+fn def_after_one<'a>(step: &'a Step, table: u32, definition: &'a TableDef) -> &'a TableDef
+    ensures { result.now ≡ def_step table step.now definition.now }
+{
+    match step {
+        Step::Commit(_) => definition,
+        Step::Define { def, rows: _ } => { if def.table == table { def } else { definition } }
+    }
+}
+
+/// The definition of served table `table` after the first `steps` steps of a history. It takes no
+/// memory.
+pub fn def_after(history: &History, table: u32, steps: u64) -> &TableDef
+    requires defined { table < length history.now.defs }
+    requires there { steps ≤ length history.now.steps }
+    ensures { Tables.def_after history.now table steps ≡ Some result.now }
+{
+    let mut definition = history.defs.at(u64::from(table));
+    for place in 0..steps {
+        definition = def_after_one(history.steps.at(place), table, definition);
+    }
+    definition
 }

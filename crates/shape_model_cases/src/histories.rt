@@ -18,13 +18,22 @@ fn rows_of(alloc: Global, text: &str) -> Result<Rows, OutOfMemory> {
     Ok(rows)
 }
 
+/// The columns of the definition with an OID: those of OID 9 stand the other way round.
+fn column_words(oid: u32) -> &'static str {
+    if oid == 9 {
+        return "s 25|n 23|id 23";
+    }
+    "id 23|n 23|s 25"
+}
+
 /// The definition with the table and the OID that two words name.
 fn definition_of(alloc: Global, words: &str) -> Result<TableDef, OutOfMemory> {
     let (table, oid) = cut(words, ' ');
+    let oid = oid.parse::<u32>().unwrap_or(0);
     Ok(TableDef {
         table: table.parse::<u32>().unwrap_or(0),
-        oid: oid.parse::<u32>().unwrap_or(0),
-        columns: columns_of(alloc, "id 23|n 23|s 25", '|')?,
+        oid,
+        columns: columns_of(alloc, column_words(oid), '|')?,
     })
 }
 
@@ -101,7 +110,11 @@ fn steps_of(alloc: Global, text: &str) -> Result<Steps, OutOfMemory> {
 }
 
 /// The history of table `public.items` with key `id`; without a base it has no rows at first for it.
-fn history_of(alloc: Global, text: &str, has_base: bool) -> Result<History, OutOfMemory> {
+pub(crate) fn history_of(
+    alloc: Global,
+    text: &str,
+    has_base: bool,
+) -> Result<History, OutOfMemory> {
     let (first, steps) = cut(text, '|');
     let (definition, rows) = cut(first, ':');
     let mut base = Tables::new(alloc);

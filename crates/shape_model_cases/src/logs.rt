@@ -68,12 +68,21 @@ fn rows_line(alloc: Global, rows: &KeyedRows) -> Result<String, OutOfMemory> {
     Ok(line)
 }
 
+/// Rows, or why there are none.
+pub(crate) fn answer_line(
+    alloc: Global,
+    answer: Result<KeyedRows, ModelError>,
+) -> Result<String, OutOfMemory> {
+    match answer {
+        Ok(rows) => rows_line(alloc, &rows),
+        Err(ModelError::BadFold { place }) => Ok(format!(in alloc; "bad {place}")?),
+        Err(ModelError::BadValue { column }) => Ok(format!(in alloc; "unread {column}")?),
+        Err(ModelError::OutOfMemory) => Err(OutOfMemory),
+    }
+}
+
 /// The rows that a log folds to, or the place of the entry that does not fit.
 pub(crate) fn fold_line(alloc: Global, text: &str) -> Result<String, OutOfMemory> {
     let entries = entries_of(alloc, text)?;
-    match fold(alloc, &entries) {
-        Ok(rows) => rows_line(alloc, &rows),
-        Err(ModelError::BadFold { place }) => Ok(format!(in alloc; "bad {place}")?),
-        Err(ModelError::OutOfMemory) => Err(OutOfMemory),
-    }
+    answer_line(alloc, fold(alloc, &entries))
 }

@@ -1,0 +1,4 @@
+pub mod Entries
+pub mod Inside
+pub mod Lends
+pub mod Uses
