@@ -1,4 +1,7 @@
+mod Keeping
 mod Moves
 mod Readings
 mod Streams
 mod Snapping
+mod Finishing
+mod Pieces
