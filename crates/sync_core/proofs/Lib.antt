@@ -2,3 +2,5 @@ mod Moves
 mod Readings
 mod Streams
 mod Snapping
+mod Finishing
+mod Telling

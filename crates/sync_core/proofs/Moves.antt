@@ -1,5 +1,5 @@
 -- How a core makes of an event what its machine makes of what that is.
-use Rattle.std.proofs.Common.{◌≡◌, List, [], ◌∷◌, ◌++◌, length, drop, refl, sym, ap, subst, ◌∙◌, Option, None, Some, Result, Ok, Err, OnOk}
+use Rattle.std.proofs.Common.{◌≡◌, List, ◌++◌, length, drop, refl, sym, ap, subst, ◌∙◌, Option, None, Some, Result, Ok, Err, OnOk}
 use Rattle.std.proofs.Math.Seq.{drop-append_seam}
 use Rattle.core_events.specs.declared.event.Event.{Event}
 use Rattle.core_events.specs.declared.out.Out.{Out}
@@ -20,7 +20,7 @@ use Rattle.sync_core.specs.declared.stream.Brought.{Brought}
 use Rattle.sync_core.specs.Stream.{Stream, Fault, anew, commits_of, fault_of, new_fault}
 use Rattle.sync_core.specs.Streaming as streams
 use Rattle.sync_core.specs.Reading.{Reading, Brings, Misfits}
-use Rattle.sync_core.specs.Run.{Situation, Turn, Goes, Stops, IsRead, stream_after, shown_since, refused_since, moved, goes_by, turned}
+use Rattle.sync_core.specs.Run.{Situation, Turn, Goes, Stops, IsRead, stream_after, shown_since, refused_since, moved, goes_by, made_of, turned}
 use Rattle.sync_core.specs.Core as cores
 use Rattle.sync_core.specs.Core.{Stands, IsSituated, refusal_out, PutsOut, GoesOn, StopsBy, TurnsTo, IsStep, Takes}
 
@@ -53,13 +53,19 @@ module _ (o : Options) (s : Situation) (e : Event) (old new : Core) (h : Stands 
 stops : (o : Options) (s : Situation) (e : Event) (t : turns.Turn) (error : StepError) → t ≡ turns.Stops error → goes_by o s e t ≡ Stops error
 stops o s e t error is = ap (goes_by o s e) is
 
--- An event that is this for the server and its clients, and nothing for the stream.
+-- An event that is read so and is nothing for the stream, where the machine makes of it what it comes to.
+pub reads_on : (e : Event) (reading : Options → Situation → Reading) (old new : Core) (result : Result (List Out) StepError) → ((o : Options) (s : Situation) → Stands o s old → IsRead o s e (reading o s))
+    → ((o : Options) (s : Situation) → Stands o s old → machine_turns.TurnsTo o (made_of o s.core (reading o s)) result new.machine)
+    → ((o : Options) (s : Situation) → stream_after o.tables s.stream e ≡ s.stream) → new.stream ≡ old.stream → new.tables ≡ old.tables → Takes old new e result
+reads_on e reading old new (Ok now) read makes same stream tables = λ o s h. record { reading = reading o s; is = read o s h; turns = goes o s e old new h stream tables (same o s) (made_of o s.core (reading o s)) now (makes o s h) }
+reads_on e reading old new (Err errors.OutOfMemory) read makes same stream tables = tt
+reads_on e reading old new (Err errors.TooManyExchanges) read makes same stream tables = λ o s h. record { reading = reading o s; is = read o s h; turns = stops o s e (made_of o s.core (reading o s)) errors.TooManyExchanges (makes o s h) }
+reads_on e reading old new (Err (errors.Unfit cause)) read makes same stream tables = λ o s h. record { reading = reading o s; is = read o s h; turns = stops o s e (made_of o s.core (reading o s)) (errors.Unfit cause) (makes o s h) }
+
+-- One that is this for the server and its clients.
 pub lifts : (e : Event) (is : law_run.Event) (old new : Core) (result : Result (List Out) StepError) → machine_turns.Takes old.machine new.machine is result → ((o : Options) (s : Situation) → Stands o s old → IsRead o s e (Brings is))
     → ((o : Options) (s : Situation) → stream_after o.tables s.stream e ≡ s.stream) → new.stream ≡ old.stream → new.tables ≡ old.tables → Takes old new e result
-lifts e is old new (Ok now) takes read same stream tables = λ o s h. record { reading = Brings is; is = read o s h; turns = goes o s e old new h stream tables (same o s) (turn_of o s.core is) now (takes o s.core h.machine) }
-lifts e is old new (Err errors.OutOfMemory) takes read same stream tables = tt
-lifts e is old new (Err errors.TooManyExchanges) takes read same stream tables = λ o s h. record { reading = Brings is; is = read o s h; turns = stops o s e (turn_of o s.core is) errors.TooManyExchanges (takes o s.core h.machine) }
-lifts e is old new (Err (errors.Unfit cause)) takes read same stream tables = λ o s h. record { reading = Brings is; is = read o s h; turns = stops o s e (turn_of o s.core is) (errors.Unfit cause) (takes o s.core h.machine) }
+lifts e is old new result takes read same stream tables = reads_on e (λ o s. Brings is) old new result read (λ o s h. takes o s.core h.machine) same stream tables
 
 -- An event that does not fit.
 pub misfits : (e : Event) (cause : Unfit) (old new : Core) → ((o : Options) (s : Situation) → Stands o s old → IsRead o s e (Misfits cause)) → Takes old new e (Err (errors.Unfit cause))

@@ -13,11 +13,13 @@ ghost use Rattle.sync_core.specs.Run.{at_start, end_for, Situation};
 ghost use Rattle.sync_core.specs.Core.{Stands, IsSituated, Takes, refusal_out, HasBrought};
 
 use crate::reading::{Coming, Joining, read_client, read_head};
+use crate::snapshots::{finish, gather};
 use crate::stream::{Brought, Refusal, Stream};
 use core_events::{Options, Out, Outs, StepError, Unfit};
 use core_machine::{Fault, Machine};
 use http_edge::Detail;
-use shape_base::{Duplicate, OutOfMemory, ServedTables};
+use pg_dialogue::SnapHead;
+use shape_base::{Duplicate, OutOfMemory, Rows, ServedTables};
 use std::alloc::Global;
 use tx_assembler::Assembler;
 
@@ -166,6 +168,24 @@ impl Core {
             Joining::Query { query, first } => self.machine.join(query, first),
             Joining::Unread => unfit(Unfit::BadPayload),
         }
+    }
+
+    /// A whole snapshot came, for the exchange that owns it.
+    pub fn snapshot(
+        &mut self,
+        exchange: u32,
+        head: &SnapHead,
+        rows: Rows,
+    ) -> Result<Outs, StepError>
+        requires { IsSituated self.old }
+        ensures takes { Takes self.old self.new (events.Snapshot exchange head.now rows) result }
+        ensures situated { OnOk result (IsSituated self.new) }
+    {
+        if !self.machine.owns_snapshot(exchange) {
+            return unfit(Unfit::NotASnapshot);
+        }
+        let progress = gather(&self.machine, exchange, head, rows)?;
+        finish(self.alloc, &mut self.machine, exchange, progress)
     }
 
     /// A snapshot's connection ended, or failed.
