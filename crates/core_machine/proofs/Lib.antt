@@ -17,3 +17,4 @@ pub mod Staying
 pub mod NewDefinitions
 pub mod Snapping
 pub mod Rounds
+pub mod Owning

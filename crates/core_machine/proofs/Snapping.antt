@@ -85,16 +85,16 @@ some_in (Some x) h go = go x refl h
 -- ---- a starting number
 
 module _ (es : List RegistryEvent) (n : ℕ) (starting : is_starting es n ≡ true) where
-  live : is_live es n ≡ true
+  pub live : is_live es n ≡ true
   live = (and_parts (is_live es n) (not (had_ready es n)) starting).0
 
-  unready : had_ready es n ≡ false
+  pub unready : had_ready es n ≡ false
   unready = not_true (had_ready es n) (and_parts (is_live es n) (not (had_ready es n)) starting).1
 
   registered : was_registered es n ≡ true
   registered = (and_parts (was_registered es n) (not (was_removed es n)) live).0
 
-  not_removed : was_removed es n ≡ false
+  pub not_removed : was_removed es n ≡ false
   not_removed = not_true (was_removed es n) (and_parts (was_registered es n) (not (was_removed es n)) live).1
 
   starts : standing_after es n ≡ standings.Starting

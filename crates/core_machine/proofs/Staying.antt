@@ -1,19 +1,23 @@
--- What exchanges keep in their places, whatever happens, and that a snapshot stays begun.
-use Rattle.std.proofs.Common.{◌≡◌, ℕ, zero, suc, Bool, List, [], ◌∷◌, ◌++◌, map, refl, sym, ap, subst, ◌∙◌, Option, None, Some}
+-- What exchanges keep in their places, whatever happens, and that a snapshot stays begun, or refused.
+use Rattle.std.proofs.Common.{◌≡◌, ℕ, zero, suc, ◌≤◌, Bool, List, [], ◌∷◌, ◌++◌, length, map, refl, sym, ap, subst, ◌∙◌, arith, Option, None, Some}
 use Rattle.std.specs.Prelude.{slice_get, IsSomeAnd}
 use Rattle.std.specs.Option.{option_map}
 use Rattle.std.proofs.lemmas.Option.{slice_get-map}
+use Rattle.shape_base.specs.declared.change.Tx.{Tx}
+use Rattle.shape_json.specs.ShapeHistory.{Reader}
 use Rattle.http_edge.specs.declared.error_code.ErrorCode.{ErrorCode}
 use Rattle.fold_client.specs.Following.{Heard}
 use Rattle.core_law.specs.Situation.{Options, Server, Role, Exchange, Situation, at_start}
-use Rattle.core_law.specs.Steps.{change_at, settled_one, refused_at, owned_in, owned_by}
+use Rattle.core_law.specs.Steps.{change_at, settled_one, refused_at, owned_in, owned_by, id_before}
 use Rattle.core_law.specs.Run.{Event, turn_of, next_of, after}
 use Rattle.core_law.proofs.ExchangeSteps.{Steps, after_steps}
 use Rattle.core_law.proofs.Lemmas.{place_stays, after_one_more}
+use Rattle.core_law.proofs.Reaching.{reached_sound}
+use Rattle.core_law.proofs.ServerSteps.{id_stays}
 use Rattle.core_law.proofs.Whole.{after_extends}
 use Rattle.core_server.specs.SnapshotLaws.{StaysUnderWay}
-use Rattle.core_server.specs.Snapshots.{IsUnderWay}
-use Rattle.core_machine.specs.Snapshots.{SnapshotsStay}
+use Rattle.core_server.specs.Snapshots.{refusal_in, IsUnderWay}
+use Rattle.core_machine.specs.Snapshots.{SnapshotsStay, RefusalsStay, ExchangesStay}
 
 -- ---- small facts
 
@@ -81,12 +85,21 @@ settled_role : (o : Options) (v : Server) (late : Exchange → Bool) (x : Exchan
 settled_role o v late x None = refl
 settled_role o v late x (Some h) = refl
 
-roles_next : (o : Options) (s : Situation) (ev : Event) → Keep (λ (x : Exchange). x.role) s.exchanges (next_of s (turn_of o s ev)).exchanges
+pub roles_next : (o : Options) (s : Situation) (ev : Event) → Keep (λ (x : Exchange). x.role) s.exchanges (next_of s (turn_of o s ev)).exchanges
 roles_next o s ev = keep_next Role (λ (x : Exchange). x.role) settled_role (λ v code x. refl) o s ev
 
--- ---- a snapshot that has begun
+-- so none is taken away
+no_fewer : {A : Type 0} (f : Exchange → A) (xs ys : List Exchange) → Keep f xs ys → length xs ≤ length ys
+no_fewer f [] ys keep = omega arith
+no_fewer f (x ∷ xs) [] keep = absurd (keep zero x refl)
+no_fewer f (x ∷ xs) (y ∷ ys) keep = let rest = no_fewer f xs ys (λ i. keep (suc i)) in omega (arith, rest)
 
-owned_stays : (xs ys : List Exchange) (e n : ℕ) → Keep (λ (x : Exchange). x.role) xs ys → owned_by (slice_get xs e) ≡ Some n → owned_by (slice_get ys e) ≡ Some n
+pub exchanges_stay : ExchangesStay
+exchanges_stay o s ev = no_fewer (λ (x : Exchange). x.role) s.exchanges (next_of s (turn_of o s ev)).exchanges (roles_next o s ev)
+
+-- ---- a snapshot that has begun, or is refused
+
+pub owned_stays : (xs ys : List Exchange) (e n : ℕ) → Keep (λ (x : Exchange). x.role) xs ys → owned_by (slice_get xs e) ≡ Some n → owned_by (slice_get ys e) ≡ Some n
 owned_stays xs ys e n keep owned = pick (slice_get xs e) refl owned
   where
     pick : (a : Option Exchange) → slice_get xs e ≡ a → owned_by a ≡ Some n → owned_by (slice_get ys e) ≡ Some n
@@ -109,4 +122,21 @@ snapshots_stay stay o s ev e head rows snap start reached b =
           (subst (λ (t : Situation). Rattle.core_law.specs.Situation.shape_at t.server.shapes b.number ≡ Some b.shape) reached.is b.at)
           (subst (λ (t : Situation). Rattle.core_law.specs.Situation.shape_at t.server.shapes b.number ≡ Some g.now) (sym next_is) g.there)
           (subst (λ (t : Situation). IsUnderWay o t.server.commits b.shape head rows snap) reached.is b.under_way));
+    }
+
+pub refusals_stay : RefusalsStay
+refusals_stay o s ev e head rows error start reached r =
+    let next = next_of s (turn_of o s ev) in
+    let on = after_extends o s (ev ∷ []) in
+    let g = on.shapes r.number r.shape r.at in
+    let within = ((reached_sound o s start reached).shapes r.number r.shape r.at).before in
+    record {
+      number = r.number;
+      shape = g.now;
+      owns = owned_stays s.exchanges next.exchanges e r.number (roles_next o s ev) r.owns;
+      at = g.there;
+      refused = ap (λ (reader : Reader). refusal_in reader o.limits (id_before next.server.commits g.now.before) head rows) g.alike.reader
+          ∙ ap (λ last. refusal_in r.shape.reader o.limits last head rows)
+          (ap (id_before next.server.commits) g.alike.before ∙ ap (λ (txs : List Tx). id_before txs r.shape.before) on.commits ∙ id_stays s.server.commits on.txs r.shape.before within)
+          ∙ r.refused;
     }

@@ -1,13 +1,16 @@
 -- The snapshot that an exchange owns: under way, whole, and refused.
-use Rattle.std.specs.Prelude.{◌≡◌, ◌<◌, ℕ, zero, suc, true, List, length, Option, None, Some, is_some, unwrap_or, slice_get, Result}
+use Rattle.std.specs.Prelude.{◌≡◌, ◌⊎◌, ◌≤◌, ◌<◌, ℕ, zero, suc, true, List, length, Option, None, Some, is_some, unwrap_or, slice_get, Result}
 use Rattle.shape_base.specs.Tables.{Table}
+use Rattle.shape_base.specs.Snapshot.{Snapshot}
 use Rattle.pg_dialogue.specs.declared.login.SnapHead.{SnapHead}
 use Rattle.shape_snapshot.specs.declared.faults.SnapError.{SnapError}
 use Rattle.core_events.specs.declared.out.Out.{Out}
 use Rattle.core_events.specs.declared.out.StepError.{StepError}
 use Rattle.core_law.specs.Situation.{Options, Shape, Situation, shape_at}
-use Rattle.core_law.specs.Steps.{owned_by, id_before}
-use Rattle.core_law.specs.Run.{Event, SnapshotCame, turn_of, next_of}
+use Rattle.core_law.specs.Steps.{Fault, owned_by, id_before}
+use Rattle.core_law.specs.Clients.{Goes}
+use Rattle.core_law.specs.Clients as law
+use Rattle.core_law.specs.Run.{Event, SnapshotCame, SnapshotEnded, turn_of, next_of}
 use Rattle.core_law.specs.Laws.{IsStart}
 use Rattle.core_law.specs.Reached.{IsReached}
 use Rattle.core_server.specs.Snapshots.{Snap, snapshot_of, refusal_in, event_for, IsUnderWay}
@@ -75,8 +78,29 @@ TakesSnapshot old new e snap result = (o : Options) (s : Situation) (head : Snap
 abbrev pub TakesRefusal : Machine → Machine → ℕ → SnapError → Result (List Out) StepError → Type 0
 TakesRefusal old new e error result = (o : Options) (s : Situation) (head : SnapHead) (rows : Table) (event : Event) → Stands o s old → IsRefusedFor o s e head rows error → event_for e head rows error ≡ Some event → TurnsTo o (turn_of o s event) result new
 
--- ---- the law
+-- ---- the laws
 
 -- A snapshot that has begun for an exchange stays so, whatever happens.
 abbrev pub SnapshotsStay : Type 0
 SnapshotsStay = (o : Options) (s : Situation) (event : Event) (e : ℕ) (head : SnapHead) (rows : Table) (snap : Snap) → IsStart o → IsReached o s → HasBegun o s e head rows snap → HasBegun o (next_of s (turn_of o s event)) e head rows snap
+
+-- What a head and rows are refused for stays so, whatever happens.
+abbrev pub RefusalsStay : Type 0
+RefusalsStay = (o : Options) (s : Situation) (event : Event) (e : ℕ) (head : SnapHead) (rows : Table) (error : SnapError) → IsStart o → IsReached o s → IsRefusedFor o s e head rows error → IsRefusedFor o (next_of s (turn_of o s event)) e head rows error
+
+-- Whoever owns a snapshot under way after an event owned it before, or is a new exchange.
+abbrev pub UnderWayIsKnown : Type 0
+UnderWayIsKnown = (o : Options) (s : Situation) (event : Event) (e : ℕ) → IsStart o → IsReached o s → is_some (under_way (next_of s (turn_of o s event)) e) ≡ true → (is_some (under_way s e) ≡ true) ⊎ (length s.exchanges ≤ e)
+
+-- an event that ends the snapshot of an exchange
+pub data EndsFor (e : ℕ) : Event → Type 0 where
+  Came : (snapshot : Snapshot) → EndsFor e (SnapshotCame e snapshot)
+  Ended : (fault : Fault) → EndsFor e (SnapshotEnded e fault)
+
+-- Once the event that ends an exchange's snapshot is taken, none is under way for it.
+abbrev pub SnapshotsEndOnce : Type 0
+SnapshotsEndOnce = (o : Options) (s : Situation) (event : Event) (e : ℕ) (outs : List law.Out) (next : Situation) → EndsFor e event → turn_of o s event ≡ Goes outs next → under_way next e ≡ None
+
+-- No event takes an exchange away.
+abbrev pub ExchangesStay : Type 0
+ExchangesStay = (o : Options) (s : Situation) (event : Event) → length s.exchanges ≤ length (next_of s (turn_of o s event)).exchanges
