@@ -182,10 +182,10 @@ given_situated m e p w = record { options = w.options; situation = w.situation; 
 -- ---- a snapshot that came at once
 
 -- the course of a dialogue that gave this head and these rows, and is done
-abbrev whole_course : SnapHead → Table → Course
+abbrev pub whole_course : SnapHead → Table → Course
 whole_course head rows = record { head = Some head; rows = rows; stand = Done }
 
-as_course : (o : Options) (s : Situation) (e : ℕ) (head : SnapHead) (rows : Table) (shape : Option Shape) → snapshot_for o s e head rows shape ≡ course_for o s e (whole_course head rows) shape
+pub as_course : (o : Options) (s : Situation) (e : ℕ) (head : SnapHead) (rows : Table) (shape : Option Shape) → snapshot_for o s e head rows shape ≡ course_for o s e (whole_course head rows) shape
 as_course o s e head rows None = refl
 as_course o s e head rows (Some x) = refl
 
