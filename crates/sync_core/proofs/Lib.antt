@@ -5,3 +5,4 @@ mod Streams
 mod Snapping
 mod Finishing
 mod Pieces
+mod Telling

@@ -39,13 +39,13 @@ use Rattle.sync_core.proofs.Snapping.{whole_stands}
 -- ---- what a snapshot comes to
 
 -- it comes to an event that ends it
-record EndsBy (e : ℕ) (reading : Reading) : Type 0 where
+pub record EndsBy (e : ℕ) (reading : Reading) : Type 0 where
   pub event : law_run.Event
   pub is : reading ≡ Brings event
   pub ends : EndsFor e event
 
 -- to nothing where it waits
-abbrev ReadsAs : ℕ → Progress → Reading → Type 0
+abbrev pub ReadsAs : ℕ → Progress → Reading → Type 0
 ReadsAs e progresses.Waits reading = reading ≡ Passes
 ReadsAs e (progresses.Refused error) reading = EndsBy e reading
 ReadsAs e (progresses.Ended fault) reading = EndsBy e reading
@@ -93,12 +93,12 @@ no_new_owner grow o s event e outs core owns turn past =
     let more : length s.exchanges ≤ length core.exchanges = subst (λ (x : law.Situation). length s.exchanges ≤ length x.exchanges) (ap (next_of s) turn) (grow o s event) in
     owner_made s e owns (omega (arith, more, past))
 
-module _ (law : KeptStays) (once : SnapshotsEndOnce) (o : Options) (s : Situation) (n : ℕ) (old new : Core) (h : Stands o s old) (others : KeepsOthers n old.dialogues.kept new.dialogues.kept) where
+module _ (stays : KeptStays) (once : SnapshotsEndOnce) (o : Options) (s : Situation) (n : ℕ) (old new : Core) (h : Stands o s old) (others : KeepsOthers n old.dialogues.kept new.dialogues.kept) where
   -- the snapshot ends, and nothing of it is kept
   pub ends_on : (e : Event) (event : law_run.Event) → EndsFor n event → pieces_after s.pieces e ≡ s.pieces → kept_for new.dialogues.kept n ≡ None → KeepsOn o s e (turn_of o s.core event) new
   ends_on e event ends spares none outs core turn =
       subst (λ (pieces : List (ℕ × List ℕ)). AreKept o core pieces new.dialogues.kept) (sym spares)
-      (end_lets_go o core s.pieces n old.dialogues.kept new.dialogues.kept (kept_next law o s.core event s.pieces old.dialogues.kept h.machine.start h.machine.reached h.kept outs core turn) others (once o s.core event n outs core ends turn) none)
+      (end_lets_go o core s.pieces n old.dialogues.kept new.dialogues.kept (kept_next stays o s.core event s.pieces old.dialogues.kept h.machine.start h.machine.reached h.kept outs core turn) others (once o s.core event n outs core ends turn) none)
 
   ends_by_on : (e : Event) (reading : Reading) → EndsBy n reading → pieces_after s.pieces e ≡ s.pieces → kept_for new.dialogues.kept n ≡ None → KeepsOn o s e (made_of o s.core reading) new
   ends_by_on e reading by spares none outs core made = ends_on e by.event by.ends spares none outs core (goes_by_event o s.core reading by.event outs core by.is made)
@@ -107,12 +107,12 @@ module _ (law : KeptStays) (once : SnapshotsEndOnce) (o : Options) (s : Situatio
     piece_ends_on : (reading : Reading) → EndsBy n reading → KeepsOn o s (events.SnapBytes n bytes) (made_of o s.core reading) new
     piece_ends_on reading by outs core made =
         let turn = goes_by_event o s.core reading by.event outs core by.is made in
-        piece_ends o core s.pieces n bytes old.dialogues.kept new.dialogues.kept (kept_next law o s.core by.event s.pieces old.dialogues.kept h.machine.start h.machine.reached h.kept outs core turn) others
+        piece_ends o core s.pieces n bytes old.dialogues.kept new.dialogues.kept (kept_next stays o s.core by.event s.pieces old.dialogues.kept h.machine.start h.machine.reached h.kept outs core turn) others
         (once o s.core by.event n outs core by.ends turn) (no_new_owner grow o s.core by.event n outs core owns turn)
 
     -- a piece came, and the snapshot stands so
     pub piece_on : (reading : Reading) (progress : Progress) → ReadsAs n progress reading → (progress ≡ progresses.Waits → AreKept o s.core (s.pieces ++ (n, bytes) ∷ []) new.dialogues.kept) → KeepsOn o s (events.SnapBytes n bytes) (made_of o s.core reading) new
-    piece_on reading progresses.Waits is waits outs core made = subst (λ (x : law.Situation). AreKept o x (s.pieces ++ (n, bytes) ∷ []) new.dialogues.kept) (goes_same o s.core reading outs core is made) (waits refl)
+    piece_on reading progresses.Waits is waits = λ outs core made. subst (λ (x : law.Situation). AreKept o x (s.pieces ++ (n, bytes) ∷ []) new.dialogues.kept) (goes_same o s.core reading outs core is made) (waits refl)
     piece_on reading (progresses.Refused error) by waits = piece_ends_on reading by
     piece_on reading (progresses.Ended fault) by waits = piece_ends_on reading by
     piece_on reading (progresses.Whole snap) by waits = piece_ends_on reading by
@@ -123,18 +123,18 @@ piece_read n bytes o s = piece_for o s.core n (said_to n (s.pieces ++ (n, bytes)
 
 pub received_on : KeptStays → SnapshotsEndOnce → ExchangesStay → SnapshotsEnd → (o : Options) (s : Situation) (n : ℕ) (bytes : List ℕ) (progress : Progress) (old new : Core) → Stands o s old → is_some (under_way s.core n) ≡ true → KeepsOthers n old.dialogues.kept new.dialogues.kept
     → IsReceived o s.core s.pieces n bytes new.dialogues.kept progress → KeepsOn o s (events.SnapBytes n bytes) (made_of o s.core (piece_read n bytes o s)) new
-received_on law once grow end o s n bytes progress old new h owns others r =
-    piece_on law once o s n old new h others grow owns bytes (piece_read n bytes o s) progress
+received_on stays once grow end o s n bytes progress old new h owns others r =
+    piece_on stays once o s n old new h others grow owns bytes (piece_read n bytes o s) progress
     (stood_reads o s.core old.machine n (course_of (said_to n (s.pieces ++ (n, bytes) ∷ []))) h.machine owns end progress r.stood) r.waits
 
 -- a snapshot came whole, and nothing of it is kept
 pub came_on : KeptStays → SnapshotsEndOnce → SnapshotsEnd → (o : Options) (s : Situation) (n : ℕ) (head : SnapHead) (rows : Table) (progress : Progress) (old new : Core) → Stands o s old → is_some (under_way s.core n) ≡ true → KeepsOthers n old.dialogues.kept new.dialogues.kept
     → kept_for new.dialogues.kept n ≡ None → ComesTo o s.core n head rows progress → KeepsOn o s (events.Snapshot n head rows) (made_of o s.core (snapshot_for o s.core n head rows (shape_of s.core (under_way s.core n)))) new
-came_on law once end o s n head rows progress old new h owns others none comes =
+came_on stays once end o s n head rows progress old new h owns others none comes =
     let shape = shape_of s.core (under_way s.core n) in
     let reads : ReadsAs n progress (snapshot_for o s.core n head rows shape) = subst (ReadsAs n progress) (sym (as_course o s.core n head rows shape))
     (stood_reads o s.core old.machine n (whole_course head rows) h.machine owns end progress (whole_stands o s.core n (whole_course head rows) progress head refl refl comes)) in
-    ends_by_on law once o s n old new h others (events.Snapshot n head rows) (snapshot_for o s.core n head rows shape) (come progress comes reads) refl none
+    ends_by_on stays once o s n old new h others (events.Snapshot n head rows) (snapshot_for o s.core n head rows shape) (come progress comes reads) refl none
   where
     come : (p : Progress) → ComesTo o s.core n head rows p → ReadsAs n p (snapshot_for o s.core n head rows (shape_of s.core (under_way s.core n))) → EndsBy n (snapshot_for o s.core n head rows (shape_of s.core (under_way s.core n)))
     come progresses.Waits comes reads = absurd comes

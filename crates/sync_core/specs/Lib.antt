@@ -7,3 +7,4 @@ pub mod Core
 pub mod UnderWay
 pub mod Finishing
 pub mod Kept
+pub mod Laws

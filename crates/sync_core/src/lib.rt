@@ -2,6 +2,7 @@
 #![tactic(auto)]
 
 mod dialogues;
+pub mod laws;
 mod reading;
 pub mod snapshots;
 mod stepping;

@@ -14,14 +14,15 @@ ghost use Rattle.sync_core.specs.Core.{Stands, IsSituated, Takes, refusal_out, H
 
 use crate::dialogues::{Dialogues, kept_stays};
 use crate::reading::{Coming, Joining, read_client, read_head};
-use crate::snapshots::finish;
+use crate::snapshots::{finish, gather};
 use crate::stream::{Brought, Refusal, Stream};
 use core_events::{Options, Out, Outs, StepError, Unfit};
 use core_machine::laws::{exchanges_stay, snapshots_end_once};
 use core_machine::{Fault, Machine};
 use core_server::snapshot_laws::snapshots_end;
 use http_edge::Detail;
-use shape_base::{Duplicate, OutOfMemory, ServedTables};
+use pg_dialogue::SnapHead;
+use shape_base::{Duplicate, OutOfMemory, Rows, ServedTables};
 use std::alloc::Global;
 use tx_assembler::Assembler;
 
@@ -193,6 +194,28 @@ impl Core {
             return unfit(Unfit::NotASnapshot);
         }
         let progress = self.dialogues.receive(&self.machine, exchange, bytes)?;
+        finish(self.alloc, &mut self.machine, exchange, progress)
+    }
+
+    /// A whole snapshot came, for the exchange that owns it.
+    pub fn snapshot(
+        &mut self,
+        exchange: u32,
+        head: &SnapHead,
+        rows: Rows,
+    ) -> Result<Outs, StepError>
+        requires { IsSituated self.old }
+        ensures takes { Takes self.old self.new (events.Snapshot exchange head.now rows) result }
+        ensures situated { OnOk result (IsSituated self.new) }
+    {
+        kept_stays();
+        snapshots_end();
+        snapshots_end_once();
+        if !self.machine.owns_snapshot(exchange) {
+            return unfit(Unfit::NotASnapshot);
+        }
+        let progress = gather(&self.machine, exchange, head, rows)?;
+        self.dialogues.let_go(exchange);
         finish(self.alloc, &mut self.machine, exchange, progress)
     }
 
