@@ -32,43 +32,52 @@ pub routed_by : (tables : List Served) (request : Request) (routed : Routed) →
 routed_by tables request routed (inl out) kept = absurd (kept out)
 routed_by tables request routed (inr is) kept = is
 
--- what asks for a part of a table passed each test
-past : (fault : Type 0) (refusal : Refusal) (follows : Routed → Type 0) (ask : Ask) → routes.Refuses fault refusal follows (Ok ask) → follows (Ok ask)
-past fault refusal follows ask (inl h) = let e = h.1 in cc
-past fault refusal follows ask (inr h) = h.1
+-- what is not refused, unless for want of memory, passed each test
+past : (fault : Type 0) (refusal : Refusal) (follows : Routed → Type 0) (routed : Routed) → (routed ≡ Err refusal → ⊥) → routes.Refuses fault refusal follows routed → follows routed
+past fault refusal follows routed other (inl h) = absurd (other h.1)
+past fault refusal follows routed other (inr h) = h.1
 
-past_at : (place : Option ℕ) (follows : Routed → Type 0) (ask : Ask) → RefusesAt place follows (Ok ask) → follows (Ok ask)
-past_at None follows ask h = h
-past_at (Some place) follows ask e = cc
+past_at : (place : Option ℕ) (follows : Routed → Type 0) (routed : Routed) → ((place : ℕ) → routed ≡ Err (refusals.WhereSyntax place) → ⊥) → RefusesAt place follows routed → follows routed
+past_at None follows routed other h = h
+past_at (Some place) follows routed other e = absurd (other place e)
 
-asked_in : (tables : List Served) (pairs : List Pair) (ask : Ask) → ParametersTried tables pairs (Ok ask) → IsAskOf tables pairs ask
-asked_in tables pairs ask tried =
-    let asks = routes.Asks tables pairs in
-    let live = routes.Refuses (IsLiveAtStart pairs) refusals.LiveAtStart asks in
-    let handle = routes.Refuses (NeedsHandle pairs) refusals.HandleNeeded live in
-    let place = PlaceTried pairs asks in
-    let clause = value_under (codes "where") pairs in
-    let table = value_under (codes "table") pairs in
-    past (IsLiveAtStart pairs) refusals.LiveAtStart asks ask
-    (past (NeedsHandle pairs) refusals.HandleNeeded live ask
-    (past (HasNoOffset (value_under (codes "offset") pairs)) refusals.BadOffset handle ask
-    (past_at (syntax_place clause) place ask
-    (past (IsTooLong clause) refusals.WhereTooLong (RefusesAt (syntax_place clause) place) ask
-    (past (IsNotServed tables table) refusals.TableNotServed (ClauseTried clause place) ask
-    (past (table ≡ None) refusals.MissingTable (routes.Refuses (IsNotServed tables table) refusals.TableNotServed (ClauseTried clause place)) ask tried))))))
+module _ (routed : Routed) (only : (refusal : Refusal) → routed ≡ Err refusal → refusal ≡ refusals.OutOfMemory) where
+  -- the test is passed
+  passed : (fault : Type 0) (refusal : Refusal) (follows : Routed → Type 0) → (refusal ≡ refusals.OutOfMemory → ⊥) → routes.Refuses fault refusal follows routed → follows routed
+  passed fault refusal follows apart h = past fault refusal follows routed (λ is. apart (only refusal is)) h
 
-asks_routed : (tables : List Served) (request : Request) (ask : Ask) → IsRouted tables request (Ok ask) → IsAskOf tables (parse (query_of request.target)) ask
-asks_routed tables request ask routed =
-    let query = query_of request.target in
-    let tried = ParametersTried tables (parse query) in
-    let once = routes.Refuses (has_repeated (parse query) ≡ true) refusals.RepeatedParameter tried in
-    let form = routes.Refuses (HasBadEscape query) refusals.BadEscape once in
-    let known = routes.Refuses (path_of request.target ≢ served_path) refusals.PathUnknown form in
-    asked_in tables (parse query) ask
-    (past (has_repeated (parse query) ≡ true) refusals.RepeatedParameter tried ask
-    (past (HasBadEscape query) refusals.BadEscape once ask
-    (past (path_of request.target ≢ served_path) refusals.PathUnknown form ask
-    (past (request.get ≡ false) refusals.MethodRefused known ask routed))))
+  asked_in : (tables : List Served) (pairs : List Pair) → ParametersTried tables pairs routed → routes.Asks tables pairs routed
+  asked_in tables pairs tried =
+      let asks = routes.Asks tables pairs in
+      let live = routes.Refuses (IsLiveAtStart pairs) refusals.LiveAtStart asks in
+      let handle = routes.Refuses (NeedsHandle pairs) refusals.HandleNeeded live in
+      let place = PlaceTried pairs asks in
+      let clause = value_under (codes "where") pairs in
+      let table = value_under (codes "table") pairs in
+      passed (IsLiveAtStart pairs) refusals.LiveAtStart asks (λ e. cc)
+      (passed (NeedsHandle pairs) refusals.HandleNeeded live (λ e. cc)
+      (passed (HasNoOffset (value_under (codes "offset") pairs)) refusals.BadOffset handle (λ e. cc)
+      (past_at (syntax_place clause) place routed (λ p is. let e = only (refusals.WhereSyntax p) is in cc)
+      (passed (IsTooLong clause) refusals.WhereTooLong (RefusesAt (syntax_place clause) place) (λ e. cc)
+      (passed (IsNotServed tables table) refusals.TableNotServed (ClauseTried clause place) (λ e. cc)
+      (passed (table ≡ None) refusals.MissingTable (routes.Refuses (IsNotServed tables table) refusals.TableNotServed (ClauseTried clause place)) (λ e. cc) tried))))))
+
+  asks_routed : (tables : List Served) (request : Request) → IsRouted tables request routed → routes.Asks tables (parse (query_of request.target)) routed
+  asks_routed tables request is =
+      let query = query_of request.target in
+      let tried = ParametersTried tables (parse query) in
+      let once = routes.Refuses (has_repeated (parse query) ≡ true) refusals.RepeatedParameter tried in
+      let form = routes.Refuses (HasBadEscape query) refusals.BadEscape once in
+      let known = routes.Refuses (path_of request.target ≢ served_path) refusals.PathUnknown form in
+      asked_in tables (parse query)
+      (passed (has_repeated (parse query) ≡ true) refusals.RepeatedParameter tried (λ e. cc)
+      (passed (HasBadEscape query) refusals.BadEscape once (λ e. cc)
+      (passed (path_of request.target ≢ served_path) refusals.PathUnknown form (λ e. cc)
+      (passed (request.get ≡ false) refusals.MethodRefused known (λ e. cc) is))))
+
+-- nothing is refused for want of memory
+pub never_out : (tables : List Served) (request : Request) → IsRouted tables request (Err refusals.OutOfMemory) → ⊥
+never_out tables request is = asks_routed (Err refusals.OutOfMemory) (λ refusal e. cc) tables request is
 
 -- the place of a table is among them
 within : (name : Pair) (place : ℕ) (tables : List Served) (found : ℕ) → table_from name place tables ≡ Some found → found < place + length tables
@@ -80,7 +89,7 @@ within name place (t ∷ tables) found e = pick (is_of_name name t) (λ h. withi
     pick false more h = let less = more h in omega (arith, less)
 
 pub ask_within : (tables : List Served) (request : Request) (ask : Ask) → IsRouted tables request (Ok ask) → ask.table < length tables
-ask_within tables request ask is = let a = asks_routed tables request ask is in let h = within _ 0 tables ask.table a.table in omega (arith, h)
+ask_within tables request ask is = let a = asks_routed (Ok ask) (λ refusal e. cc) tables request is in let h = within _ 0 tables ask.table a.table in omega (arith, h)
 
 served_by : (tables : List Served) (request : Request) (routed : Routed) → IsRouted tables request routed → (asked : Asked) → asked ≡ asked_as routed → (ask : Ask) → asked ≡ AsksFor ask → ask.table < length tables
 served_by tables request (Ok ask) is asked same other e = let eq : ask ≡ other = cc in subst (λ (a : Ask). a.table < length tables) eq (ask_within tables request ask is)

@@ -148,7 +148,7 @@ finishes o s e g old progress may h f = ends_by o s e g.head g.rows old may.0 h 
 
 -- ---- how it stands
 
-whole_stands : (o : Options) (s : Situation) (e : ℕ) (c : Course) (progress : Progress) (head : SnapHead) → c.head ≡ Some head → c.stand ≡ Done → ComesTo o s e head c.rows progress → Stood o s e c progress
+pub whole_stands : (o : Options) (s : Situation) (e : ℕ) (c : Course) (progress : Progress) (head : SnapHead) → c.head ≡ Some head → c.stand ≡ Done → ComesTo o s e head c.rows progress → Stood o s e c progress
 whole_stands o s e c progresses.Waits head has done comes = absurd comes
 whole_stands o s e c (progresses.Refused error) head has done comes = record { head = head; has = has; done = done; comes = comes }
 whole_stands o s e c (progresses.Ended fault) head has done comes = absurd comes

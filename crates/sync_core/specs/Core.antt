@@ -19,12 +19,14 @@ use Rattle.sync_core.specs.Stream.{Fault}
 use Rattle.sync_core.specs.Streaming as streams
 use Rattle.sync_core.specs.Streaming.{fault_in}
 use Rattle.sync_core.specs.Reading.{Reading}
+use Rattle.sync_core.specs.Kept.{AreKept}
 use Rattle.sync_core.specs.Run.{Situation, Turn, Goes, Stops, IsRead, turned}
 
--- The core stands for a situation: its machine for that of the server and its clients, its stream for the stream. There are fewer than 2^32 served tables.
+-- The core stands for a situation: its machine for that of the server and its clients, its stream for the stream, and what it keeps of snapshots for their pieces. There are fewer than 2^32 served tables.
 pub record Stands (o : Options) (s : Situation) (c : Core) : Type 0 where
   pub machine : machines.Stands o s.core c.machine
   pub stream : streams.Stands o.tables c.stream s.stream
+  pub kept : AreKept o s.core s.pieces c.dialogues.kept
   pub tables : c.tables ≡ o.tables
   pub few : length o.tables < 4294967296
 

@@ -5,3 +5,6 @@ pub mod Coming
 pub mod Run
 pub mod Core
 pub mod UnderWay
+pub mod Finishing
+pub mod Kept
+pub mod Laws

@@ -8,7 +8,7 @@ use Rattle.shape_base.specs.Tables.{Table}
 use Rattle.pg_dialogue.specs.declared.login.SnapHead.{SnapHead}
 use Rattle.pg_dialogue.specs.declared.wire_error.WireError.{WireError}
 use Rattle.pg_dialogue.specs.declared.wire_error.WireError.TheVariants as wires
-use Rattle.pg_dialogue.specs.Course.{Stand, Wants, Refused, Done, course_of}
+use Rattle.pg_dialogue.specs.Course.{Stand, Wants, Refused, Done, Course, course_of}
 use Rattle.shape_snapshot.specs.declared.faults.SnapError.{SnapError}
 use Rattle.shape_snapshot.specs.Refusals.{seen_of}
 use Rattle.http_edge.specs.declared.error_code.Detail.TheVariants as details
@@ -132,10 +132,14 @@ abbrev pub shape_of : law.Situation → Option ℕ → Option Shape
 shape_of s None = None
 shape_of s (Some n) = shape_at s.server.shapes n
 
--- a piece of a snapshot came for this shape, and these bytes came in all
+-- what the course of its dialogue comes to so far, for this shape
+abbrev pub course_for : Options → law.Situation → ℕ → Course → Option Shape → Reading
+course_for o s e c None = Misfits unfit.NotASnapshot
+course_for o s e c (Some x) = by_stand o.limits s.server.commits e x c.head c.rows c.stand
+
+-- a piece of a snapshot came for it, and these bytes came in all
 abbrev pub piece_for : Options → law.Situation → ℕ → List ℕ → Option Shape → Reading
-piece_for o s e bytes None = Misfits unfit.NotASnapshot
-piece_for o s e bytes (Some x) = let c = course_of bytes in by_stand o.limits s.server.commits e x c.head c.rows c.stand
+piece_for o s e bytes shape = course_for o s e (course_of bytes) shape
 
 -- a whole snapshot came for it
 abbrev pub snapshot_for : Options → law.Situation → ℕ → SnapHead → Table → Option Shape → Reading
@@ -173,8 +177,12 @@ abbrev pub goes_by : Options → Situation → Event → turns.Turn → Turn
 goes_by o s e (turns.Goes outs core) = Goes (refused_since o.tables s.stream (stream_after o.tables s.stream e)) outs (moved o s e core)
 goes_by o s e (turns.Stops error) = Stops error
 
+-- what becomes of the server and its clients
+abbrev pub made_of : Options → law.Situation → Reading → turns.Turn
+made_of o s Passes = turns.Goes [] s
+made_of o s (Brings event) = turn_of o s event
+made_of o s (Misfits cause) = turns.Stops (errors.Unfit cause)
+
 -- What an event does that is this for the server and its clients.
 abbrev pub turned : Options → Situation → Event → Reading → Turn
-turned o s e Passes = goes_by o s e (turns.Goes [] s.core)
-turned o s e (Brings event) = goes_by o s e (turn_of o s.core event)
-turned o s e (Misfits cause) = Stops (errors.Unfit cause)
+turned o s e reading = goes_by o s e (made_of o s.core reading)

@@ -5,16 +5,19 @@ ghost use Rattle.pg_dialogue.specs.Course.{course_of};
 ghost use Rattle.pg_dialogue.specs.Pieces.{Given, MayCome};
 ghost use Rattle.core_law.specs.Situation.{Options, Situation};
 ghost use Rattle.core_machine.specs.Faults as faults;
-ghost use Rattle.core_machine.specs.Standing.{Stands};
+ghost use Rattle.core_machine.specs.Standing.{Stands, IsSituated};
 ghost use Rattle.core_machine.specs.Snapshots.{OwnsSnapshot};
 ghost use Rattle.sync_core.specs.Run.{fault_for};
 ghost use Rattle.sync_core.specs.UnderWay.{IsTaken, TakenFor, IsUnderWay, ComesTo, Stood, Stepped, GoesOn};
+ghost use Rattle.sync_core.specs.Finishing.{HasStood, TakesStood};
 
+use core_events::{Outs, StepError};
 use core_machine::{Fault, Machine};
+use core_server::snapshot_laws::snapshots_end;
 use core_server::take_row;
 use http_edge::Detail;
 use pg_dialogue::{SnapHead, SnapReader, SnapStep, WireError};
-use shape_base::{OutOfMemory, Row};
+use shape_base::{OutOfMemory, Row, Rows};
 use shape_def::Def;
 use shape_snapshot::{Snap, SnapError};
 use std::alloc::Global;
@@ -205,5 +208,44 @@ impl UnderWay {
             }
         }
         Err(OutOfMemory)
+    }
+}
+
+/// What a snapshot comes to that came at once, with this head and these rows. There is no memory for 2^32 columns.
+pub(crate) fn gather(
+    machine: &Machine,
+    exchange: u32,
+    head: &SnapHead,
+    rows: Rows,
+) -> Result<Progress, OutOfMemory>
+    requires { OwnsSnapshot machine.now exchange }
+    ensures { (o : Options) (s : Situation) → Stands o s machine.now → IfOk result (ComesTo o s exchange head.now rows) }
+{
+    let mut taken = begun(machine, exchange, head)?;
+    for row in rows.into_vec() {
+        taken = taken.with_row(row)?;
+    }
+    Ok(taken.whole())
+}
+
+/// What a snapshot came to is taken, for the exchange that owns it. Where more is to come, nothing happens.
+pub(crate) fn finish(
+    alloc: Global,
+    machine: &mut Machine,
+    exchange: u32,
+    progress: Progress,
+) -> Result<Outs, StepError>
+    requires { HasStood machine.old exchange progress }
+    ensures takes { TakesStood machine.old machine.new exchange progress result }
+    ensures situated { OnOk result (IsSituated machine.new) }
+{
+    match progress {
+        Progress::Waits => Ok(Outs::new(alloc)),
+        Progress::Refused(error) => {
+            snapshots_end();
+            machine.snapshot_refused(exchange, error)
+        }
+        Progress::Ended(fault) => machine.snapshot_ended(exchange, fault),
+        Progress::Whole(snap) => machine.snapshot(exchange, snap),
     }
 }

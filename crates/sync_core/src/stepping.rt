@@ -12,12 +12,17 @@ ghost use Rattle.sync_core.specs.Streaming.{fault_in};
 ghost use Rattle.sync_core.specs.Run.{at_start, end_for, Situation};
 ghost use Rattle.sync_core.specs.Core.{Stands, IsSituated, Takes, refusal_out, HasBrought};
 
+use crate::dialogues::{Dialogues, kept_stays};
 use crate::reading::{Coming, Joining, read_client, read_head};
+use crate::snapshots::{finish, gather};
 use crate::stream::{Brought, Refusal, Stream};
 use core_events::{Options, Out, Outs, StepError, Unfit};
+use core_machine::laws::{exchanges_stay, snapshots_end_once};
 use core_machine::{Fault, Machine};
+use core_server::snapshot_laws::snapshots_end;
 use http_edge::Detail;
-use shape_base::{Duplicate, OutOfMemory, ServedTables};
+use pg_dialogue::SnapHead;
+use shape_base::{Duplicate, OutOfMemory, Rows, ServedTables};
 use std::alloc::Global;
 use tx_assembler::Assembler;
 
@@ -27,6 +32,7 @@ pub struct Core {
     alloc: Global,
     machine: Machine,
     stream: Stream,
+    dialogues: Dialogues,
     /// The served tables, by which targets are read.
     tables: ServedTables,
 }
@@ -85,6 +91,7 @@ impl Core {
             alloc,
             machine: Machine::new(alloc, limits, tables, defs, run)?,
             stream: Stream::new(alloc, assembler),
+            dialogues: Dialogues::new(alloc),
             tables: own,
         })
     }
@@ -112,6 +119,7 @@ impl Core {
         requires takable { AreTakable self.old.machine.server.tables brought.txs }
         ensures takes { HasBrought self.old.machine self.new.machine brought result }
         ensures stream { self.new.stream ≡ self.old.stream }
+        ensures dialogues { self.new.dialogues ≡ self.old.dialogues }
         ensures tables { self.new.tables ≡ self.old.tables }
     {
         let Brought { txs, refusal } = brought;
@@ -125,6 +133,7 @@ impl Core {
         ensures takes { Takes self.old self.new (events.Message bytes.now) result }
         ensures situated { OnOk result (IsSituated self.new) }
     {
+        kept_stays();
         let brought = self.stream.receive_message(self.alloc, bytes)?;
         self.bring(brought)
     }
@@ -135,6 +144,7 @@ impl Core {
         ensures takes { Takes self.old self.new (events.FrameBytes bytes.now) result }
         ensures situated { OnOk result (IsSituated self.new) }
     {
+        kept_stays();
         let brought = self.stream.receive_frames(self.alloc, bytes)?;
         self.bring(brought)
     }
@@ -145,6 +155,7 @@ impl Core {
         ensures takes { Takes self.old self.new (events.RequestHead bytes.now) result }
         ensures situated { OnOk result (IsSituated self.new) }
     {
+        kept_stays();
         match read_head(self.alloc, &self.tables, bytes)? {
             Coming::Request {
                 target,
@@ -162,10 +173,50 @@ impl Core {
         ensures takes { Takes self.old self.new (events.NewClient pairs.now) result }
         ensures situated { OnOk result (IsSituated self.new) }
     {
+        kept_stays();
         match read_client(self.alloc, &self.tables, pairs)? {
             Joining::Query { query, first } => self.machine.join(query, first),
             Joining::Unread => unfit(Unfit::BadPayload),
         }
+    }
+
+    /// The next bytes of a snapshot's connection came.
+    pub fn snap_bytes(&mut self, exchange: u32, bytes: &[u8]) -> Result<Outs, StepError>
+        requires { IsSituated self.old }
+        ensures takes { Takes self.old self.new (events.SnapBytes exchange bytes.now) result }
+        ensures situated { OnOk result (IsSituated self.new) }
+    {
+        kept_stays();
+        exchanges_stay();
+        snapshots_end();
+        snapshots_end_once();
+        if !self.machine.owns_snapshot(exchange) {
+            return unfit(Unfit::NotASnapshot);
+        }
+        let progress = self.dialogues.receive(&self.machine, exchange, bytes)?;
+        finish(self.alloc, &mut self.machine, exchange, progress)
+    }
+
+    /// A whole snapshot came, for the exchange that owns it.
+    pub fn snapshot(
+        &mut self,
+        exchange: u32,
+        head: &SnapHead,
+        rows: Rows,
+    ) -> Result<Outs, StepError>
+        requires { IsSituated self.old }
+        ensures takes { Takes self.old self.new (events.Snapshot exchange head.now rows) result }
+        ensures situated { OnOk result (IsSituated self.new) }
+    {
+        kept_stays();
+        snapshots_end();
+        snapshots_end_once();
+        if !self.machine.owns_snapshot(exchange) {
+            return unfit(Unfit::NotASnapshot);
+        }
+        let progress = gather(&self.machine, exchange, head, rows)?;
+        self.dialogues.let_go(exchange);
+        finish(self.alloc, &mut self.machine, exchange, progress)
     }
 
     /// A snapshot's connection ended, or failed.
@@ -174,6 +225,9 @@ impl Core {
         ensures takes { Takes self.old self.new (events.SnapEnd exchange failed) result }
         ensures situated { OnOk result (IsSituated self.new) }
     {
+        kept_stays();
+        snapshots_end_once();
+        self.dialogues.let_go(exchange);
         self.machine.snapshot_ended(exchange, end_of(failed))
     }
 
@@ -183,6 +237,7 @@ impl Core {
         ensures takes { Takes self.old self.new (events.SendNext client) result }
         ensures situated { OnOk result (IsSituated self.new) }
     {
+        kept_stays();
         self.machine.send_next(client)
     }
 
@@ -192,6 +247,7 @@ impl Core {
         ensures takes { Takes self.old self.new (events.Receive client exchange) result }
         ensures situated { OnOk result (IsSituated self.new) }
     {
+        kept_stays();
         self.machine.receive(client, exchange)
     }
 
@@ -201,6 +257,7 @@ impl Core {
         ensures takes { Takes self.old self.new (events.Watch client) result }
         ensures situated { OnOk result (IsSituated self.new) }
     {
+        kept_stays();
         self.machine.watch(client)
     }
 
@@ -210,6 +267,7 @@ impl Core {
         ensures takes { Takes self.old self.new (events.Remove number) result }
         ensures situated { OnOk result (IsSituated self.new) }
     {
+        kept_stays();
         self.machine.remove(number)
     }
 
@@ -219,6 +277,7 @@ impl Core {
         ensures takes { Takes self.old self.new (events.Moment now) result }
         ensures situated { OnOk result (IsSituated self.new) }
     {
+        kept_stays();
         self.machine.moment(now)
     }
 }

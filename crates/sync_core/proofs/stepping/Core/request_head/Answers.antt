@@ -14,19 +14,19 @@ returns-in-Request-clause-takes c =
     let bytes = c.args.bytes.now in
     let is = RequestCame c.in-Request.target (asked_of c.in-Request.asked) c.in-Request.close in
     let reads = subst (λ coming. ReadsHead c.args.self.now.tables bytes (reading_of coming)) c.in-Request.is c.in_ok-target.ensures.reads in
-    lifts (events.RequestHead bytes) is c.args.self.now (record { alloc = c.args.self.now.alloc; machine = c.request.new.self; stream = c.args.self.now.stream; tables = c.args.self.now.tables }) c.request.result c.request.ensures.takes (λ o s h. subst (λ tables. ReadsHead tables bytes (Brings is)) h.tables reads) (λ o s. refl) refl refl
+    lifts c.kept_stays.ensures (events.RequestHead bytes) is c.args.self.now (record { alloc = c.args.self.now.alloc; machine = c.request.new.self; stream = c.args.self.now.stream; dialogues = c.args.self.now.dialogues; tables = c.args.self.now.tables }) c.request.result c.request.ensures.takes (λ o s h. subst (λ tables. ReadsHead tables bytes (Brings is)) h.tables reads) (λ o s. refl) (λ s. refl) refl refl refl
 
 pub returns-in-Request-clause-situated : goal.returns-in-Request-clause-situated
-returns-in-Request-clause-situated c = situated (events.RequestHead c.args.bytes.now) c.args.self.now (record { alloc = c.args.self.now.alloc; machine = c.request.new.self; stream = c.args.self.now.stream; tables = c.args.self.now.tables }) c.request.result (returns-in-Request-clause-takes c) c.requires
+returns-in-Request-clause-situated c = situated (events.RequestHead c.args.bytes.now) c.args.self.now (record { alloc = c.args.self.now.alloc; machine = c.request.new.self; stream = c.args.self.now.stream; dialogues = c.args.self.now.dialogues; tables = c.args.self.now.tables }) c.request.result (returns-in-Request-clause-takes c) c.requires
 
 pub returns-in-Cut-clause-takes : goal.returns-in-Cut-clause-takes
 returns-in-Cut-clause-takes c =
     let bytes = c.args.bytes.now in
     let reads = subst (λ coming. ReadsHead c.args.self.now.tables bytes (reading_of coming)) c.in-Cut.is c.in_ok-target.ensures.reads in
-    lifts (events.RequestHead bytes) HeadCut c.args.self.now (record { alloc = c.args.self.now.alloc; machine = c.cut.new.self; stream = c.args.self.now.stream; tables = c.args.self.now.tables }) c.cut.result c.cut.ensures.takes (λ o s h. subst (λ tables. ReadsHead tables bytes (Brings HeadCut)) h.tables reads) (λ o s. refl) refl refl
+    lifts c.kept_stays.ensures (events.RequestHead bytes) HeadCut c.args.self.now (record { alloc = c.args.self.now.alloc; machine = c.cut.new.self; stream = c.args.self.now.stream; dialogues = c.args.self.now.dialogues; tables = c.args.self.now.tables }) c.cut.result c.cut.ensures.takes (λ o s h. subst (λ tables. ReadsHead tables bytes (Brings HeadCut)) h.tables reads) (λ o s. refl) (λ s. refl) refl refl refl
 
 pub returns-in-Cut-clause-situated : goal.returns-in-Cut-clause-situated
-returns-in-Cut-clause-situated c = situated (events.RequestHead c.args.bytes.now) c.args.self.now (record { alloc = c.args.self.now.alloc; machine = c.cut.new.self; stream = c.args.self.now.stream; tables = c.args.self.now.tables }) c.cut.result (returns-in-Cut-clause-takes c) c.requires
+returns-in-Cut-clause-situated c = situated (events.RequestHead c.args.bytes.now) c.args.self.now (record { alloc = c.args.self.now.alloc; machine = c.cut.new.self; stream = c.args.self.now.stream; dialogues = c.args.self.now.dialogues; tables = c.args.self.now.tables }) c.cut.result (returns-in-Cut-clause-takes c) c.requires
 
 pub returns-in-More-clause-takes : goal.returns-in-More-clause-takes
 returns-in-More-clause-takes c =
