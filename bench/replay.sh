@@ -1,9 +1,10 @@
 #!/usr/bin/env bash
 # How fast a script is replayed: MB/s of shape_replay beside sha256sum on the same file, in the same run.
 # The file is a script of about 60 MB, made from a seed: one table, many transactions of a few inserts, and one watch at the end, which prints all
-# rows. A script a tenth as large tells whether the time grows with the size. Fails where replay has less than a tenth of sha256sum's bytes per second,
-# where ten times the script takes more than twelve times the time, or where memory is above 20 bytes per byte of script and 64 MB.
-# Skips where a tool is missing. Wants 250 MB of disk and 1.3 GB of memory.
+# rows. A script a tenth as large tells whether the time grows with the size; one as large has a client with a clause that selects a tenth of the rows.
+# Fails where replay has less than 0.03 of sha256sum's bytes per second, or with the clause less than 0.06; where ten times the script takes more than
+# twelve times the time; or where memory is above 30 bytes per byte of script and 64 MB.
+# Skips where a tool is missing. Wants 300 MB of disk and 2 GB of memory.
 set -u
 cd "$(dirname "$0")/.." || exit 1
 . bench/timing.sh
@@ -36,10 +37,10 @@ def row(rng, number):
     return struct.pack('>H', 3) + b''.join(b't' + struct.pack('>I', len(value)) + value for value in values)
 
 
-def opening():
+def opening(query):
     watch = record(b'W', bytes(4))
     yield record(b'T', b'public\0items\0' + OID + columns() + struct.pack('>HH', 1, 0))
-    yield record(b'N', b'table=items') + watch
+    yield record(b'N', query) + watch
     yield record(b'G', bytes(4) + b'1:1:\0' + OID + columns() + bytes(4)) + watch
 
 
@@ -52,10 +53,10 @@ def transaction(rng, xid, first):
     yield b'C' + struct.pack('>BQQq', 0, xid * 100, xid * 100 + 8, 0)
 
 
-def write(path, size):
+def write(path, size, query):
     rng = random.Random(60)
     with open(path, 'wb') as out:
-        done, xid = sum(out.write(part) for part in opening()), 0
+        done, xid = sum(out.write(part) for part in opening(query)), 0
         while done < size:
             xid += 1
             for message in transaction(rng, xid, xid * 10):
@@ -63,8 +64,9 @@ def write(path, size):
         out.write(record(b'W', bytes(4)) + record(b'E'))
 
 
-write(sys.argv[1] + '/large', 60_000_000)
-write(sys.argv[1] + '/small', 6_000_000)
+write(sys.argv[1] + '/large', 60_000_000, b'table=items')
+write(sys.argv[1] + '/small', 6_000_000, b'table=items')
+write(sys.argv[1] + '/clause', 60_000_000, b'table=items&where=n+%3C+100')
 PYTHON
 
 [ -x crates/shape_replay/out/shape_replay ] || (cd crates/shape_replay && rt run -- replay < stdin > /dev/null 2>&1) || { echo "replay.sh: shape_replay does not run"; exit 1; }
@@ -72,6 +74,7 @@ program=$PWD/crates/shape_replay/out/shape_replay
 
 hashing=$(seconds 3 "$folder/large" sha256sum) || exit 1
 small=$(seconds 3 "$folder/small" "$program" replay) || exit 1
+clause=$(seconds 3 "$folder/clause" "$program" replay) || exit 1
 large=$(seconds 3 "$folder/large" "$program" replay) || exit 1
 tail -1 "$answer"
 peak=$(python3 - "$program" "$folder/large" <<'PYTHON'
@@ -84,7 +87,7 @@ print(resource.getrusage(resource.RUSAGE_CHILDREN).ru_maxrss * 1024)
 PYTHON
 ) || exit 1
 size=$(wc -c < "$folder/large")
-awk -v bytes="$size" -v small="$small" -v large="$large" -v hash="$hashing" -v peak="$peak" 'BEGIN {
-    printf "replay %.1f MB/s, sha256sum %.1f MB/s, ratio %.3f; ten times the script takes %.1f times the time; %.1f bytes of memory per byte\n", bytes / large / 1e6, bytes / hash / 1e6, hash / large, large / small, peak / bytes
-    exit hash / large < 0.1 || large / small > 12 || peak > 20 * bytes + 64e6
+awk -v bytes="$size" -v small="$small" -v large="$large" -v clause="$clause" -v hash="$hashing" -v peak="$peak" 'BEGIN {
+    printf "replay %.1f MB/s, sha256sum %.1f MB/s, ratio %.3f; with a clause %.3f; ten times the script takes %.1f times the time; %.1f bytes of memory per byte\n", bytes / large / 1e6, bytes / hash / 1e6, hash / large, hash / clause, large / small, peak / bytes
+    exit hash / large < 0.03 || hash / clause < 0.06 || large / small > 12 || peak > 30 * bytes + 64e6
 }'
