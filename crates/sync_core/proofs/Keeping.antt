@@ -80,6 +80,13 @@ none_came o s e said under none u = subst (λ (fed : List ℕ). IsUnderWay o s e
 
 -- ---- what is kept for all
 
+-- at the start nothing
+pub none_kept : (o : Options) (s : Situation) (kept : Kept) → ((e : ℕ) → kept_for kept e ≡ None) → AreKept o s [] kept
+none_kept o s kept none = record {
+  owners = λ e owns. untouched_is_kept o s e [] kept (record { unsaid = refl; none = none e });
+  unmade = λ e past. record { unsaid = refl; none = none e };
+}
+
 pub kept_stays : SnapshotsStay → RefusalsStay → UnderWayIsKnown → ExchangesStay → KeptStays
 kept_stays begun refused known grow o s event pieces kept start reached h = record {
   owners = λ e owns. pick e (known o s event e start reached owns);
