@@ -1,6 +1,6 @@
 -- What is kept of snapshots stands for what came, whatever happens.
 use Rattle.std.proofs.Common.{◌≡◌, ◌⊎◌, inl, inr, ℕ, ◌≤◌, Bool, true, false, ◌==◌, if◌then◌else◌, List, [], ◌∷◌, ◌++◌, length, refl, sym, ap, subst, ◌∙◌, arith, Option, None, Some}
-use Rattle.std.specs.Prelude.{is_some, slice_get}
+use Rattle.std.specs.Prelude.{is_some}
 use Rattle.std.specs.Ordering.{nat_cmp}
 use Rattle.std.specs.Cmp.{unsigned_tied}
 use Rattle.std.specs.BTreeMap.{is_at}
@@ -79,6 +79,13 @@ pub none_came : (o : Options) (s : Situation) (e : ℕ) (said : List ℕ) (under
 none_came o s e said under none u = subst (λ (fed : List ℕ). IsUnderWay o s e fed under) (sym none) u
 
 -- ---- what is kept for all
+
+-- at the start nothing
+pub none_kept : (o : Options) (s : Situation) (kept : Kept) → ((e : ℕ) → kept_for kept e ≡ None) → AreKept o s [] kept
+none_kept o s kept none = record {
+  owners = λ e owns. untouched_is_kept o s e [] kept (record { unsaid = refl; none = none e });
+  unmade = λ e past. record { unsaid = refl; none = none e };
+}
 
 pub kept_stays : SnapshotsStay → RefusalsStay → UnderWayIsKnown → ExchangesStay → KeptStays
 kept_stays begun refused known grow o s event pieces kept start reached h = record {

@@ -1,5 +1,5 @@
 -- How a core makes of an event what its machine makes of what that is.
-use Rattle.std.proofs.Common.{◌≡◌, List, [], ◌++◌, length, drop, refl, sym, ap, subst, ◌∙◌, Option, None, Some, Result, Ok, Err, OnOk}
+use Rattle.std.proofs.Common.{◌≡◌, List, ◌++◌, length, drop, refl, sym, ap, subst, ◌∙◌, Option, None, Some, Result, Ok, Err, OnOk}
 use Rattle.std.proofs.Math.Seq.{drop-append_seam}
 use Rattle.core_events.specs.declared.event.Event.{Event}
 use Rattle.core_events.specs.declared.out.Out.{Out}

@@ -29,7 +29,7 @@ use Rattle.sync_core.specs.declared.stepping.Core.{Core}
 use Rattle.sync_core.specs.Reading.{Reading, Passes, Brings, Misfits}
 use Rattle.sync_core.specs.Run.{Situation, pieces_after, said_to, shape_of, course_for, piece_for, snapshot_for, made_of}
 use Rattle.sync_core.specs.UnderWay.{ComesTo, Stood}
-use Rattle.sync_core.specs.Kept.{Kept, kept_for, AreKept, IsReceived, KeepsOthers, KeptStays}
+use Rattle.sync_core.specs.Kept.{kept_for, AreKept, IsReceived, KeepsOthers, KeptStays}
 use Rattle.sync_core.specs.Core.{Stands}
 use Rattle.sync_core.proofs.Finishing.{whole_reads, refused_reads, ended_reads, waits_reads, whole_course, as_course}
 use Rattle.sync_core.proofs.Keeping.{kept_next, owner_made, piece_ends, end_lets_go}

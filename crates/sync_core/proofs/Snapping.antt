@@ -1,6 +1,6 @@
 -- A snapshot under way: its head, its rows, and the end of its dialogue.
 use Rattle.std.proofs.Common.{◌≡◌, ◌⊎◌, inl, inr, ◌<◌, ℕ, Bool, true, false, List, [], ◌∷◌, ◌++◌, length, Option, None, Some, refl, sym, ap, subst, ◌∙◌, append_assoc}
-use Rattle.std.specs.Prelude.{is_some, Result, Ok, Err, IfOk, IfErr}
+use Rattle.std.specs.Prelude.{is_some, Result, Ok, Err, IfOk}
 use Rattle.std.proofs.lemmas.List.{append-nil}
 use Rattle.shape_base.specs.declared.limits.Limits.{Limits}
 use Rattle.shape_base.specs.Tables.{Table, Values}
@@ -12,9 +12,9 @@ use Rattle.pg_dialogue.specs.declared.snap_reader.SnapStep.{SnapStep}
 use Rattle.pg_dialogue.specs.declared.snap_reader.SnapStep.TheVariants as steps
 use Rattle.pg_dialogue.specs.declared.snap_reader.Stage.{Stage}
 use Rattle.pg_dialogue.specs.declared.snap_reader.Stage.TheVariants.{Opening, Rows, Closing, Over}
-use Rattle.pg_dialogue.specs.Course.{Course, Stand, Wants, Refused, Done, course_of}
+use Rattle.pg_dialogue.specs.Course.{Course, Refused, Done, course_of}
 use Rattle.pg_dialogue.specs.Reached.{Reached}
-use Rattle.pg_dialogue.specs.Pieces.{Given, with_step, with_answer, MayCome, IsFront, as_given, open_stand, HasGiven, Took}
+use Rattle.pg_dialogue.specs.Pieces.{Given, with_step, MayCome, IsFront, as_given, open_stand, HasGiven, Took}
 use Rattle.shape_snapshot.specs.declared.faults.SnapError.{SnapError}
 use Rattle.shape_snapshot.specs.declared.faults.SnapError.TheVariants as errors
 use Rattle.shape_snapshot.specs.Refusals.{start_of, refusal_of, or_else, IsCause}
@@ -31,7 +31,7 @@ use Rattle.sync_core.specs.declared.snapshots.UnderWay as program
 use Rattle.sync_core.specs.declared.snapshots.Progress.{Progress}
 use Rattle.sync_core.specs.declared.snapshots.Progress.TheVariants as progresses
 use Rattle.sync_core.specs.Run.{fault_for}
-use Rattle.sync_core.specs.UnderWay.{IsTaken, TakenOf, TakenFor, IsUnderWay, ComesTo, CameTo, Stood, WantsMore, EndsFor, Finishes, Follows, Stepped, WentOn, GoesOn}
+use Rattle.sync_core.specs.UnderWay.{IsTaken, TakenOf, TakenFor, IsUnderWay, ComesTo, Stood, Finishes, Follows, Stepped, WentOn, GoesOn}
 
 -- ---- refusals
 

@@ -1,5 +1,5 @@
 -- A snapshot whose bytes come in pieces: what was taken of it, and how it stands.
-use Rattle.std.specs.Prelude.{◌≡◌, ◌<◌, ℕ, false, List, [], length, Option, None, Some}
+use Rattle.std.specs.Prelude.{◌≡◌, ◌<◌, ℕ, false, List, length, Option, None, Some}
 use Rattle.shape_base.specs.Tables.{Table}
 use Rattle.pg_dialogue.specs.declared.login.SnapHead.{SnapHead}
 use Rattle.pg_dialogue.specs.declared.wire_error.WireError.{WireError}

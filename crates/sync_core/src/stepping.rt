@@ -197,7 +197,7 @@ impl Core {
         finish(self.alloc, &mut self.machine, exchange, progress)
     }
 
-    /// A whole snapshot came, for the exchange that owns it.
+    /// A whole snapshot came, for the exchange that owns it. Pieces of it that came before are let go.
     pub fn snapshot(
         &mut self,
         exchange: u32,

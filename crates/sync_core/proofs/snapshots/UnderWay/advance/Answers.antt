@@ -1,5 +1,5 @@
-use Rattle.std.proofs.Common.{ℕ, List, [], ◌++◌, ◌∙◌, Option, None, Some, sym, ap, subst}
-use Rattle.std.specs.Prelude.{Result, Ok, Err, IfOk, IfErr, ◌≡◌, ◌⊎◌}
+use Rattle.std.proofs.Common.{ℕ, List, [], ◌++◌, ◌∙◌, Option, Some, sym, ap, subst}
+use Rattle.std.specs.Prelude.{Result, Ok, IfOk, IfErr, ◌≡◌, ◌⊎◌}
 use Rattle.std.proofs.lemmas.Result.{IfOk-weaker}
 use Rattle.pg_dialogue.specs.declared.snap_reader.SnapStep.{SnapStep}
 use Rattle.pg_dialogue.specs.declared.wire_error.WireError.{WireError}

@@ -1,4 +1,4 @@
-use Rattle.std.proofs.Common.{Option, Some, subst}
+use Rattle.std.proofs.Common.{Option, subst}
 use Rattle.sync_core.specs.declared.snapshots.Progress.{Progress}
 use Rattle.sync_core.specs.UnderWay.{GoesOn, WentOn}
 use Rattle.sync_core.proofs.snapshots.UnderWay.go_on.Goals as goal

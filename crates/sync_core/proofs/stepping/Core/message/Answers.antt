@@ -1,3 +1,4 @@
+use Rattle.std.proofs.Common.{refl}
 use Rattle.core_events.specs.declared.event.Event.TheVariants as events
 use Rattle.sync_core.proofs.Moves.{streams_on, situated}
 use Rattle.sync_core.proofs.stepping.Core.message.Goals as goal

@@ -1,4 +1,4 @@
-use Rattle.std.proofs.Common.{[], ◌∷◌, ◌++◌, Err, refl, sym, subst, ◌∙◌}
+use Rattle.std.proofs.Common.{[], ◌∷◌, ◌++◌, refl, sym}
 use Rattle.pg_dialogue.specs.Course.{course_of}
 use Rattle.core_events.specs.declared.event.Event.TheVariants as events
 use Rattle.sync_core.specs.declared.stepping.Core.{Core}
