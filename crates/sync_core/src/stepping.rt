@@ -16,7 +16,7 @@ use crate::dialogues::{Dialogues, kept_stays};
 use crate::reading::{Coming, Joining, read_client, read_head};
 use crate::snapshots::{finish, gather};
 use crate::stream::{Brought, Refusal, Stream};
-use core_events::{Options, Out, Outs, StepError, Unfit};
+use core_events::{Event, Options, Out, Outs, StepError, Unfit};
 use core_machine::laws::{exchanges_stay, snapshots_end_once};
 use core_machine::{Fault, Machine};
 use core_server::snapshot_laws::snapshots_end;
@@ -279,5 +279,34 @@ impl Core {
     {
         kept_stays();
         self.machine.moment(now)
+    }
+
+    /// Takes one event.
+    ///
+    /// Refusals: `Unfit` where it does not fit, with its cause; `TooManyExchanges` where it would make one exchange too many; and want of memory.
+    pub fn step(&mut self, event: Event) -> Result<Outs, StepError>
+        requires { IsSituated self.old }
+        ensures takes { Takes self.old self.new event result }
+        ensures situated { OnOk result (IsSituated self.new) }
+    {
+        match event {
+            Event::Anew => self.begin_anew(),
+            Event::Message { bytes } => self.message(bytes.as_slice()),
+            Event::FrameBytes { bytes } => self.frame_bytes(bytes.as_slice()),
+            Event::RequestHead { bytes } => self.request_head(bytes.as_slice()),
+            Event::SnapBytes { exchange, bytes } => self.snap_bytes(exchange, bytes.as_slice()),
+            Event::Snapshot {
+                exchange,
+                head,
+                rows,
+            } => self.snapshot(exchange, &head, rows),
+            Event::SnapEnd { exchange, failed } => self.snap_end(exchange, failed),
+            Event::NewClient { pairs } => self.new_client(pairs.as_slice()),
+            Event::SendNext { client } => self.send_next(client),
+            Event::Receive { client, exchange } => self.receive(client, exchange),
+            Event::Watch { client } => self.watch(client),
+            Event::Remove { number } => self.remove(number),
+            Event::Moment { now } => self.moment(now),
+        }
     }
 }
