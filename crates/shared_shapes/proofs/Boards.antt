@@ -1,0 +1,135 @@
+-- A registry that stands for its events, after one event more.
+use Rattle.std.proofs.Common.{◌≡◌, ℕ, ◌+◌, Bool, true, false, cond, List, [], ◌∷◌, ◌++◌, map, length, Option, Some, None, refl, sym, ap, ◌∙◌, subst, append-nil, nat_cmp}
+use Rattle.std.specs.Prelude.{◌||◌, IfSome, IsSome}
+use Rattle.std.specs.List.{list_any}
+use Rattle.std.specs.Ordering.{eq_by_cmp}
+use Rattle.std.specs.Cmp.{nat_cmp_total, unsigned_tied}
+use Rattle.std.specs.FinMap as fin
+use Rattle.std.specs.FinMap.{FinMap, get-insert, get-remove}
+use Rattle.lock_events.specs.Written.{Written}
+use Rattle.shape_base.specs.declared.cause.Cause.{Cause}
+use Rattle.shape_base.specs.declared.definition.TableDef.{TableDef}
+use Rattle.shape_base.specs.declared.registry_event.RegistryEvent.{RegistryEvent}
+use Rattle.shape_base.specs.declared.registry_event.RegistryEvent.TheVariants.{Registered, Ready, Removed, Took, Redefined}
+use Rattle.shape_base.specs.RegistryHistory.{Stands, Taken, ready_in, transaction_in, transactions, registrations, made_ready, had_ready, was_registered, registers, IsLegal}
+use Rattle.shape_json.specs.ShapeHistory.{snapshot_in}
+use Rattle.shape_registry.specs.State.{after}
+use Rattle.shape_registry.specs.Registry.{WithKept, Adds}
+use Rattle.shape_registry.proofs.Growing.{part_stays, part_grows, any_more}
+use Rattle.shape_registry.proofs.Legal.{Facts, facts_of, never_registered, ready_stays}
+use Rattle.shared_shapes.specs.declared.registry_data.RegistryData.{RegistryData}
+use Rattle.shared_shapes.specs.Events.{Noted, Place, plain, began, place_in, events_of, place_of}
+use Rattle.shared_shapes.specs.Board.{Kept, IsKept, IsBoard, start_of, taken_lsns}
+use Rattle.shared_shapes.specs.Passes.{IsLegalFor}
+use Rattle.shared_shapes.proofs.Places.{events_append, place_stays, place_new}
+
+true≢false : true ≡ false → ⊥
+true≢false e = cc
+
+-- ---- maps
+
+if_cut : {X : Type 0} (P : X → Type 0) (b : Bool) (o : Option X) → IfSome o P → IfSome (cond b None o) P
+if_cut P true o h = tt
+if_cut P false o h = h
+
+if_put : {X : Type 0} (P : X → Type 0) (b : Bool) (x : X) (o : Option X) → (b ≡ true → P x) → (b ≡ false → IfSome o P) → IfSome (cond b (Some x) o) P
+if_put P true x o f g = f refl
+if_put P false x o f g = g refl
+
+if_weaker : {X : Type 0} (P Q : X → Type 0) (o : Option X) → ((x : X) → P x → Q x) → IfSome o P → IfSome o Q
+if_weaker P Q None f h = tt
+if_weaker P Q (Some x) f h = f x h
+
+equal : (m n : ℕ) → (m == n) ≡ true → m ≡ n
+equal m n e = grind (arith, nat_tests)
+
+apart : (m n : ℕ) → (m == n) ≡ false → (n == m) ≡ false
+apart m n e = grind (arith, nat_tests)
+
+itself : (n : ℕ) → (n == n) ≡ true
+itself n = grind (arith, nat_tests)
+
+-- what is found after a value was put under a number: that value there, and elsewhere what was
+pub put_all : {X : Type 0} (P : ℕ → X → Type 0) (m : FinMap nat_cmp X) (n : ℕ) (x : X) → P n x → ((q : ℕ) → (q == n) ≡ false → IfSome (fin.get m q) (P q)) → (q : ℕ) → IfSome (fin.get (fin.insert m n x) q) (P q)
+put_all P m n x here rest q = subst (λ o. IfSome o (P q)) (sym (get-insert nat_cmp_total m n x q))
+    (if_put (P q) (eq_by_cmp nat_cmp q n) x (fin.get m q)
+    (λ e. subst (λ k. P k x) (sym (equal q n (sym (unsigned_tied q n) ∙ e))) here)
+    (λ e. rest q (sym (unsigned_tied q n) ∙ e)))
+
+pub cut_all : {X : Type 0} (P : ℕ → X → Type 0) (m : FinMap nat_cmp X) (n : ℕ) → ((q : ℕ) → IfSome (fin.get m q) (P q)) → (q : ℕ) → IfSome (fin.get (fin.remove m n) q) (P q)
+cut_all P m n all q = subst (λ o. IfSome o (P q)) (sym (get-remove nat_cmp_total m n q)) (if_cut (P q) (eq_by_cmp nat_cmp q n) (fin.get m q) (all q))
+
+-- ---- histories
+
+had_other : (es : List RegistryEvent) (n m : ℕ) → (m == n) ≡ false → had_ready (es ++ Ready n ∷ []) m ≡ had_ready es m
+had_other es n m h = ap (λ (ns : List ℕ). list_any (λ k. k == m) ns) (part_grows ready_in es (Ready n) n refl) ∙ any_more (λ k. k == m) (made_ready es) n ∙ ap (λ b. had_ready es m || b) (apart m n h) ∙ or_none (had_ready es m)
+  where
+    or_none : (b : Bool) → (b || false) ≡ b
+    or_none true = refl
+    or_none false = refl
+
+module _ {A : Type 0} where
+  lsns_stay : (es : List (Noted A)) (e : Noted A) → transaction_in e.event ≡ None → taken_lsns (es ++ e ∷ []) ≡ taken_lsns es
+  lsns_stay es e h = ap (λ (l : List RegistryEvent). map (λ (t : Taken). t.lsn) (transactions l)) (events_append es (e ∷ [])) ∙ ap (λ (ts : List Taken). map (λ (t : Taken). t.lsn) ts) (part_stays transaction_in (events_of es) e.event h)
+
+  -- what is kept for a number, after an event that does not make it ready
+  pub kept_on : (es : List (Noted A)) (e : Noted A) (n : ℕ) (k : Kept A) → had_ready (events_of es ++ e.event ∷ []) n ≡ had_ready (events_of es) n → IsKept es n k → IsKept (es ++ e ∷ []) n k
+  kept_on es e n k same h = let all : had_ready (events_of (es ++ e ∷ [])) n ≡ had_ready (events_of es) n = ap (λ l. had_ready l n) (events_append es (e ∷ [])) ∙ same in
+      record { place = place_stays es (e ∷ []) n (place_in k.pass k.ready) h.place; told = λ r. h.told (sym all ∙ r); marked = λ r. h.marked (sym all ∙ r) }
+
+  module _ (about : RegistryData) (registry : WithKept (Kept A)) (fed : Written ℕ) (given : ℕ) (f : Option RegistryData) (es : List (Noted A)) (b : IsBoard about registry fed given f es) where
+    pub board_legal : IsLegalFor f es
+    board_legal = subst (λ f. IsLegalFor f es) (sym b.fixed) b.stands.legal
+
+    facts : Facts about.limits.shapes (events_of es)
+    facts = facts_of about.limits.shapes (events_of es) b.stands.legal
+
+    pub fresh : was_registered (events_of es) (given + 1) ≡ false
+    fresh = subst (λ k. was_registered (events_of es) (k + 1) ≡ false) (sym (b.count ∙ ap (λ s. s.given) b.stands.kept)) (never_registered about.limits.shapes (events_of es) facts)
+
+    -- after one event more, by which no transaction is taken
+    pub board_adds : (e : Noted A) (registry' : WithKept (Kept A)) (given' : ℕ) → transaction_in e.event ≡ None → Adds registry.state e.event registry'.state → given' ≡ registry'.state.given
+        → ((n : ℕ) → IfSome (fin.get registry'.kept n) (IsKept (es ++ e ∷ []) n)) → IsBoard about registry' fed given' f (es ++ e ∷ [])
+    board_adds e registry' given' none adds count kept = record {
+      fixed = b.fixed;
+      stands = subst (λ l. Stands (start_of about) l registry'.state) (sym (events_append es (e ∷ []))) (adds (start_of about) (events_of es) b.stands);
+      count = count;
+      same_feed = b.same_feed;
+      fed_is = b.fed_is ∙ sym (lsns_stay es e none);
+      kept = kept;
+    }
+
+    pub board_redefined : (d : TableDef) (registry' : WithKept (Kept A)) → registry'.state ≡ after registry.state (Redefined d) → Adds registry.state (Redefined d) registry'.state → registry'.kept ≡ registry.kept
+        → IsBoard about registry' fed given f (es ++ plain (Redefined d) ∷ [])
+    board_redefined d registry' state adds same = board_adds (plain (Redefined d)) registry' given refl adds (b.count ∙ sym (ap (λ s. s.given) state))
+        (λ n. subst (λ o. IfSome o (IsKept (es ++ plain (Redefined d) ∷ []) n)) (sym (ap (λ m. fin.get m n) same))
+        (if_weaker (IsKept es n) (IsKept (es ++ plain (Redefined d) ∷ []) n) (fin.get registry.kept n) (λ k. kept_on es (plain (Redefined d)) n k (ready_stays (events_of es) (Redefined d) n refl)) (b.kept n)))
+
+    pub board_removed : (number : ℕ) (cause : Cause) (registry' : WithKept (Kept A)) → registry'.state ≡ after registry.state (Removed number cause) → Adds registry.state (Removed number cause) registry'.state → registry'.kept ≡ fin.remove registry.kept number
+        → IsBoard about registry' fed given f (es ++ plain (Removed number cause) ∷ [])
+    board_removed number cause registry' state adds same = let e = plain (Removed number cause) in
+        board_adds e registry' given refl adds (b.count ∙ sym (ap (λ s. s.given) state))
+        (λ n. subst (λ o. IfSome o (IsKept (es ++ e ∷ []) n)) (sym (ap (λ m. fin.get m n) same))
+        (cut_all (IsKept (es ++ e ∷ [])) registry.kept number
+        (λ q. if_weaker (IsKept es q) (IsKept (es ++ e ∷ []) q) (fin.get registry.kept q) (λ k. kept_on es e q k (ready_stays (events_of es) (Removed number cause) q refl)) (b.kept q)) n))
+
+    pub board_ready : (number : ℕ) (k : Kept A) (registry' : WithKept (Kept A)) → registry'.state ≡ after registry.state (Ready number) → Adds registry.state (Ready number) registry'.state → registry'.kept ≡ fin.insert registry.kept number k
+        → place_of es number ≡ Some (place_in k.pass k.ready) → IsSome (snapshot_in k.pass.seen) → k.ready.list ≡ true ∷ []
+        → IsBoard about registry' fed given f (es ++ plain (Ready number) ∷ [])
+    board_ready number k registry' state adds same place told marked = let e = plain (Ready number) in
+        board_adds e registry' given refl adds (b.count ∙ sym (ap (λ s. s.given) state))
+        (λ n. subst (λ o. IfSome o (IsKept (es ++ e ∷ []) n)) (sym (ap (λ m. fin.get m n) same))
+        (put_all (IsKept (es ++ e ∷ [])) registry.kept number k (record { place = place_stays es (e ∷ []) number (place_in k.pass k.ready) place; told = λ _. told; marked = λ _. marked })
+        (λ q apart. if_weaker (IsKept es q) (IsKept (es ++ e ∷ []) q) (fin.get registry.kept q) (λ x. kept_on es e q x (had_other (events_of es) number q apart)) (b.kept q)) n))
+
+    pub board_registered : (number : ℕ) (identity : List ℕ) (table : ℕ) (last : Option ℕ) (k : Kept A) (registry' : WithKept (Kept A)) → number ≡ given + 1
+        → registry'.state ≡ after registry.state (Registered number identity table last) → Adds registry.state (Registered number identity table last) registry'.state → registry'.kept ≡ fin.insert registry.kept number k
+        → IsBoard about registry' fed number f (es ++ began (Registered number identity table last) (place_in k.pass k.ready) ∷ [])
+    board_registered number identity table last k registry' next state adds same = let e = began (Registered number identity table last) (place_in k.pass k.ready) in
+        let none : was_registered (events_of es) number ≡ false = ap (λ n. was_registered (events_of es) n) next ∙ fresh in
+        let unready : had_ready (events_of (es ++ e ∷ [])) number ≡ false = ap (λ l. had_ready l number) (events_append es (e ∷ [])) ∙ ready_stays (events_of es) e.event number refl ∙ facts.readied number none in
+        board_adds e registry' number refl adds (next ∙ ap (λ g. g + 1) b.count ∙ sym (ap (λ s. s.given) state))
+        (λ n. subst (λ o. IfSome o (IsKept (es ++ e ∷ []) n)) (sym (ap (λ m. fin.get m n) same))
+        (put_all (IsKept (es ++ e ∷ [])) registry.kept number k
+        (record { place = place_new es e number none (itself number); told = λ r. absurd (true≢false (sym r ∙ unready)); marked = λ r. absurd (true≢false (sym r ∙ unready)) })
+        (λ q apart. if_weaker (IsKept es q) (IsKept (es ++ e ∷ []) q) (fin.get registry.kept q) (λ x. kept_on es e q x (ready_stays (events_of es) e.event q refl)) (b.kept q)) n))
