@@ -1,6 +1,9 @@
 -- A registry that stands for its events, after one event more.
-use Rattle.std.proofs.Common.{◌≡◌, ℕ, ◌+◌, Bool, true, false, cond, List, [], ◌∷◌, ◌++◌, map, length, Option, Some, None, refl, sym, ap, ◌∙◌, subst, append-nil, nat_cmp}
-use Rattle.std.specs.Prelude.{◌||◌, IfSome, IsSome}
+use Rattle.std.proofs.Common.{◌≡◌, ℕ, ◌+◌, ◌<◌, Bool, true, false, cond, List, [], ◌∷◌, ◌++◌, map, length, Option, Some, None, refl, sym, ap, ◌∙◌, subst, append-nil, nat_cmp, arith}
+use Rattle.std.proofs.lemmas.Bool.Decides.{nat_tests}
+use Rattle.std.proofs.lemmas.Bool.{false≢true}
+use Rattle.std.specs.Prelude.{◌||◌, ◌==◌, if◌then◌else◌, IfSome, IsSome, slice_set}
+use Rattle.std.proofs.lemmas.List.{length-set}
 use Rattle.std.specs.List.{list_any}
 use Rattle.std.specs.Ordering.{eq_by_cmp}
 use Rattle.std.specs.Cmp.{nat_cmp_total, unsigned_tied}
@@ -11,20 +14,39 @@ use Rattle.shape_base.specs.declared.cause.Cause.{Cause}
 use Rattle.shape_base.specs.declared.definition.TableDef.{TableDef}
 use Rattle.shape_base.specs.declared.registry_event.RegistryEvent.{RegistryEvent}
 use Rattle.shape_base.specs.declared.registry_event.RegistryEvent.TheVariants.{Registered, Ready, Removed, Took, Redefined}
-use Rattle.shape_base.specs.RegistryHistory.{Stands, Taken, ready_in, transaction_in, transactions, registrations, made_ready, had_ready, was_registered, registers, IsLegal}
-use Rattle.shape_json.specs.ShapeHistory.{snapshot_in}
-use Rattle.shape_registry.specs.State.{after}
-use Rattle.shape_registry.specs.Registry.{WithKept, Adds}
+use Rattle.shape_base.specs.RegistryHistory.{Stands, Taken, redefined, redefinitions, ready_in, transaction_in, transactions, registrations, made_ready, had_ready, is_live, was_registered, registers, IsLegal}
+use Rattle.shape_json.specs.ShapeHistory.{ShapeEvent, Snapped, snapshot_in}
+use Rattle.shape_json.specs.ShapeHistory as shape
+use Rattle.shape_lock.specs.Passes.{Sight}
+use Rattle.front_lock.specs.Passes.{IsSameLock}
+use mathlib.Core.List.{IsPrefix}
+use Rattle.shape_registry.specs.State.{after, standing_in}
+use Rattle.shape_registry.specs.declared.standing.Standing.TheVariants as standings
+use Rattle.shape_registry.proofs.Laws.{standing_by_history}
+use Rattle.shape_registry.specs.Registry.{WithKept, Adds, IsRefused}
+use Rattle.shape_registry.specs.ByHistory.{refusal_after}
+use Rattle.shape_registry.specs.declared.refusal.RegisterError.{RegisterError}
+use Rattle.shape_registry.specs.declared.refusal.RegisterError.TheVariants as refused
+use Rattle.shared_shapes.specs.Calls.{IsStartError}
+use Rattle.shared_shapes.specs.Reasons.{reason_of}
 use Rattle.shape_registry.proofs.Growing.{part_stays, part_grows, any_more}
 use Rattle.shape_registry.proofs.Legal.{Facts, facts_of, never_registered, ready_stays}
 use Rattle.shared_shapes.specs.declared.registry_data.RegistryData.{RegistryData}
 use Rattle.shared_shapes.specs.Events.{Noted, Place, plain, began, place_in, events_of, place_of}
 use Rattle.shared_shapes.specs.Board.{Kept, IsKept, IsBoard, start_of, taken_lsns}
-use Rattle.shared_shapes.specs.Passes.{IsLegalFor}
+use Rattle.shared_shapes.specs.Passes.{IsLegalFor, IsServed}
 use Rattle.shared_shapes.proofs.Places.{events_append, place_stays, place_new}
 
 true≢false : true ≡ false → ⊥
-true≢false e = cc
+true≢false e = false≢true (sym e)
+
+-- ---- refusals
+
+pub refused_is : {K : Type 0} (limit : ℕ) (es : List RegistryEvent) (identity : List ℕ) (kept : K) (e : RegisterError K) → IsRefused (refusal_after limit es identity) kept e → IsStartError limit es identity (reason_of e)
+refused_is limit es identity kept (refused.Exists n k) h = h.0
+refused_is limit es identity kept (refused.TooMany live most k) h = h.0
+refused_is limit es identity kept (refused.NumbersSpent k) h = h.0
+refused_is limit es identity kept (refused.OutOfMemory k) h = tt
 
 -- ---- maps
 
@@ -61,6 +83,10 @@ cut_all P m n all q = subst (λ o. IfSome o (P q)) (sym (get-remove nat_cmp_tota
 
 -- ---- histories
 
+unmarked : (h : Bool) (marks : List Bool) → marks ≡ [] → (h ≡ true → marks ≡ true ∷ []) → h ≡ false
+unmarked true marks none f = absurd (let q = sym none ∙ f refl in cc)
+unmarked false marks none f = refl
+
 had_other : (es : List RegistryEvent) (n m : ℕ) → (m == n) ≡ false → had_ready (es ++ Ready n ∷ []) m ≡ had_ready es m
 had_other es n m h = ap (λ (ns : List ℕ). list_any (λ k. k == m) ns) (part_grows ready_in es (Ready n) n refl) ∙ any_more (λ k. k == m) (made_ready es) n ∙ ap (λ b. had_ready es m || b) (apart m n h) ∙ or_none (had_ready es m)
   where
@@ -68,7 +94,25 @@ had_other es n m h = ap (λ (ns : List ℕ). list_any (λ k. k == m) ns) (part_g
     or_none true = refl
     or_none false = refl
 
+catalog_length : (defs news : List TableDef) → length (redefined defs news) ≡ length defs
+catalog_length defs [] = refl
+catalog_length defs (d ∷ news) = catalog_length (slice_set defs d.table d) news ∙ length-set defs d.table d
+
+-- a snapshot that came stays
+snapshot_stays : (es fs : List ShapeEvent) → IsSome (snapshot_in es) → IsSome (snapshot_in (es ++ fs))
+snapshot_stays [] fs h = absurd (false≢true h)
+snapshot_stays (Snapped x ∷ es) fs h = h
+snapshot_stays (shape.Took y n ∷ es) fs h = snapshot_stays es fs h
+snapshot_stays (shape.Dropped c ∷ es) fs h = snapshot_stays es fs h
+
+pub snapshot_on : (es gs : List ShapeEvent) → IsPrefix es gs → IsSome (snapshot_in es) → IsSome (snapshot_in gs)
+snapshot_on es gs p h = subst (λ (l : List ShapeEvent). IsSome (snapshot_in l)) p.1 (snapshot_stays es p.0 h)
+
 module _ {A : Type 0} where
+  -- the place of a shape, by another pass of its lock
+  pub same_place : (k k' : Sight A) (w w' : Written Bool) → IsSameLock k k' → w'.of ≡ w.of → place_in k w ≡ place_in k' w'
+  same_place k k' w w' lock of = sym (ap (λ l. record { lock = l; about = k'.fixed; ready = w'.of }) lock.0 ∙ ap (λ f. record { lock = k.lock; about = f; ready = w'.of }) lock.1 ∙ ap (λ o. record { lock = k.lock; about = k.fixed; ready = o }) of)
+
   lsns_stay : (es : List (Noted A)) (e : Noted A) → transaction_in e.event ≡ None → taken_lsns (es ++ e ∷ []) ≡ taken_lsns es
   lsns_stay es e h = ap (λ (l : List RegistryEvent). map (λ (t : Taken). t.lsn) (transactions l)) (events_append es (e ∷ [])) ∙ ap (λ (ts : List Taken). map (λ (t : Taken). t.lsn) ts) (part_stays transaction_in (events_of es) e.event h)
 
@@ -86,6 +130,20 @@ module _ {A : Type 0} where
 
     pub fresh : was_registered (events_of es) (given + 1) ≡ false
     fresh = subst (λ k. was_registered (events_of es) (k + 1) ≡ false) (sym (b.count ∙ ap (λ s. s.given) b.stands.kept)) (never_registered about.limits.shapes (events_of es) facts)
+
+    -- what is kept for a number
+    pub kept_here : (number : ℕ) (k : Kept A) → Some k ≡ fin.get registry.kept number → IsKept es number k
+    kept_here number k at = subst (λ o. IfSome o (IsKept es number)) (sym at) (b.kept number)
+
+    -- a served table has its definition in the catalogue
+    pub served_here : (table : ℕ) → IsServed f table → table < length registry.state.catalog
+    served_here table h = subst (λ k. table < k) (sym (ap (λ s. length s.catalog) b.stands.kept ∙ catalog_length about.definitions.value (redefinitions (events_of es)))) (subst (λ f. IsServed f table) b.fixed h)
+
+    -- a live number whose list has no mark waits for its snapshot
+    pub starting_here : (number : ℕ) (k : Kept A) → Some k ≡ fin.get registry.kept number → k.ready.list ≡ [] → true ≡ is_live (events_of es) number → standing_in registry.state number ≡ standings.Starting
+    starting_here number k at none live = standing_by_history (start_of about) (events_of es) registry.state b.stands number
+        ∙ ap (λ l. if l then (if had_ready (events_of es) number then standings.Ready else standings.Starting) else standings.NotLive) (sym live)
+        ∙ ap (λ h. if h then standings.Ready else standings.Starting) (unmarked (had_ready (events_of es) number) k.ready.list none (λ h. (kept_here number k at).marked h))
 
     -- after one event more, by which no transaction is taken
     pub board_adds : (e : Noted A) (registry' : WithKept (Kept A)) (given' : ℕ) → transaction_in e.event ≡ None → Adds registry.state e.event registry'.state → given' ≡ registry'.state.given

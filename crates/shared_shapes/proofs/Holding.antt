@@ -11,6 +11,10 @@ use Rattle.shared_shapes.specs.Board.{Kept, IsBoard}
 use Rattle.shared_shapes.specs.Passes.{RegSight, IsLegalFor, StepsOn, Keeps}
 use Rattle.shared_shapes.proofs.Boards.{board_legal}
 
+-- what a state stood for when it was taken, by the data of its holder
+pub stood : {A : Type 0} (f f' : Option RegistryData) (about : RegistryData) (registry : WithKept (Kept A)) (fed : Written ℕ) (given : ℕ) (es : List (Noted A)) → f' ≡ f → IsBoard about registry fed given f es → IsBoard about registry fed given f' es
+stood f f' about registry fed given es same b = subst (λ (f : Option RegistryData). IsBoard about registry fed given f es) (sym same) b
+
 module _ {A : Type 0} (k h k' : RegSight A) (about : RegistryData) (registry : WithKept (Kept A)) (fed : Written ℕ) (given : ℕ)
   (lock : IsSameLock k h × IsSameShare k h) (seen : IsPrefix k.seen h.seen) (own : mine h ≡ mine k) (lock' : IsSameLock h k' × IsSameShare h k') where
   -- with these events

@@ -5,6 +5,9 @@ use Rattle.lock_events.specs.Written.{Written}
 use Rattle.shape_base.specs.declared.limits.Limits.{Limits}
 use Rattle.shape_base.specs.declared.registry_event.RegistryEvent.{RegistryEvent}
 use Rattle.shape_base.specs.declared.registry_event.RegistryEvent.TheVariants.{Registered}
+use Rattle.shape_base.specs.declared.served.Served.{Served}
+use Rattle.shape_base.specs.declared.definition.TableDef.{TableDef}
+use Rattle.shared_shapes.specs.declared.registry_data.RegistryData.{RegistryData}
 use Rattle.shape_base.specs.Tables.{Values}
 use Rattle.shape_base.specs.Shape.{Knows}
 use Rattle.shape_json.specs.ShapeHistory.{ShapeEvent}
@@ -72,3 +75,10 @@ module _ {A : Type 0} (knows : A → Knows) (unread : A → Values → ℕ → B
     pub is : p'.seats ≡ fin.insert p.seats number after
     pub on : GoesOn knows unread before.pass after.pass made
     pub then_ : fact after.pass
+
+-- ---- a new registry
+
+-- the data of a registry's lock are those with which it was started
+abbrev pub IsStartedWith : Limits → List Served → List TableDef → List ℕ → Option RegistryData → Type 0
+IsStartedWith limits tables definitions run None = ⊥
+IsStartedWith limits tables definitions run (Some d) = (d.limits ≡ limits) × (d.tables.value ≡ tables) × (d.definitions.value ≡ definitions) × (d.run.value ≡ run)

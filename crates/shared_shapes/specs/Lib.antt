@@ -6,3 +6,4 @@ pub mod Seats
 pub mod Rights
 pub mod Lends
 pub mod Calls
+pub mod Reasons

@@ -3,12 +3,12 @@ ghost use Rattle.std.specs.Prelude.{◌≡◌, ◌+◌, ◌^◌, ◌-◌, ◌++�
 ghost use Rattle.shape_base.specs.declared.registry_event.RegistryEvent.TheVariants as events;
 ghost use Rattle.shape_base.specs.RegistryHistory.{is_live, last_id};
 ghost use Rattle.shape_json.specs.ShapeHistory.{snapshot_in};
-ghost use Rattle.shape_lock.specs.Locked.{kept};
 ghost use Rattle.shape_registry.specs.ByHistory.{standing_after};
 ghost use Rattle.shared_shapes.specs.Events.{plain, began, place_in, place_of, events_of};
 ghost use Rattle.shared_shapes.specs.Board.{IsBoard};
 ghost use Rattle.shared_shapes.specs.Passes.{IsServed, shapes_in, removed_if, ready_if};
 ghost use Rattle.shared_shapes.specs.Calls.{IsStartError};
+ghost use Rattle.shared_shapes.specs.Reasons.{reason_of};
 
 use crate::registry_data::RegistryData;
 use crate::slot::Slot;
@@ -47,6 +47,22 @@ impl<T: RowTest> Stands for Board<T> {
     ghost stands = { λ b f _ events. IsBoard b.about b.registry b.fed b.given f events };
 }
 
+/// Why no number was given; what was to be kept is let go.
+fn reason<K: Drop>(e: RegisterError<K>) -> StartError
+    ensures { result ≡ reason_of e }
+{
+    match e {
+        RegisterError::Exists { number, kept: _ } => StartError::Exists { number },
+        RegisterError::TooMany {
+            live,
+            limit,
+            kept: _,
+        } => StartError::TooMany { live, limit },
+        RegisterError::NumbersSpent { kept: _ } => StartError::NumbersSpent,
+        RegisterError::OutOfMemory { kept: _ } => StartError::OutOfMemory,
+    }
+}
+
 impl<T: RowTest> Board<T> {
     /// A registry with no shapes. The list of the trace is going to have the LSNs of the commits that it takes.
     pub(crate) fn new(
@@ -59,7 +75,7 @@ impl<T: RowTest> Board<T> {
     ) -> Result<Board<T>, OutOfMemory>
         requires { fed.list ≡ [] }
         ensures stands { IfOk result (λ b. IsBoard b.about b.registry b.fed b.given (Some b.about) []) }
-        ensures about { IfOk result (λ b. b.about ≡ record { limits = limits; run = kept run; tables = kept tables; definitions = kept definitions; feed = kept fed }) }
+        ensures about { IfOk result (λ b. (b.about.limits ≡ limits) × (b.about.run.value ≡ run) × (b.about.tables.value ≡ tables) × (b.about.definitions.value ≡ definitions) × (b.about.feed.value ≡ fed)) }
     {
         let about = RegistryData {
             limits,
@@ -120,10 +136,10 @@ impl<T: RowTest> Board<T> {
         ensures stands { IsBoard self.new.about self.new.registry self.new.fed self.new.given held.now.fixed (held.now.seen ++ removed_if result number cause) }
     {
         let _ = held;
-        match self.registry.remove(number, cause) {
-            Some(_) => true,
-            None => false,
-        }
+        let Some(_slot) = self.registry.remove(number, cause) else {
+            return false;
+        };
+        true
     }
 
     /// A number becomes ready, whose shape has its snapshot, as the note tells. False where it is live no more.
@@ -173,12 +189,7 @@ impl<T: RowTest> Board<T> {
                 self.given = number;
                 Ok(number)
             }
-            Err(RegisterError::Exists { number, kept: _ }) => Err(StartError::Exists { number }),
-            Err(RegisterError::TooMany { live, limit, kept: _ }) => {
-                Err(StartError::TooMany { live, limit })
-            }
-            Err(RegisterError::NumbersSpent { kept: _ }) => Err(StartError::NumbersSpent),
-            Err(RegisterError::OutOfMemory { kept: _ }) => Err(StartError::OutOfMemory),
+            Err(e) => Err(reason(e)),
         }
     }
 }
