@@ -2,19 +2,20 @@
 use Rattle.std.proofs.Common.{◌≡◌, ℕ, ◌+◌, ◌<◌, Bool, true, false, cond, List, [], ◌∷◌, ◌++◌, map, length, Option, Some, None, refl, sym, ap, ◌∙◌, subst, append-nil, nat_cmp, arith}
 use Rattle.std.proofs.lemmas.Bool.Decides.{nat_tests}
 use Rattle.std.proofs.lemmas.Bool.{false≢true}
-use Rattle.std.specs.Prelude.{◌||◌, ◌==◌, if◌then◌else◌, IfSome, IsSome, slice_set}
+use Rattle.std.specs.Prelude.{◌||◌, ◌&&◌, not, ◌==◌, if◌then◌else◌, IfSome, IsSome, slice_set}
 use Rattle.std.proofs.lemmas.List.{length-set}
 use Rattle.std.specs.List.{list_any}
 use Rattle.std.specs.Ordering.{eq_by_cmp}
 use Rattle.std.specs.Cmp.{nat_cmp_total, unsigned_tied}
 use Rattle.std.specs.FinMap as fin
-use Rattle.std.specs.FinMap.{FinMap, get-insert, get-remove}
+use Rattle.std.specs.FinMap.{FinMap, get-insert, get-remove, same_map}
+use Rattle.std.proofs.lemmas.Map.Lookups.{exact_unsigned}
 use Rattle.lock_events.specs.Written.{Written}
 use Rattle.shape_base.specs.declared.cause.Cause.{Cause}
 use Rattle.shape_base.specs.declared.definition.TableDef.{TableDef}
 use Rattle.shape_base.specs.declared.registry_event.RegistryEvent.{RegistryEvent}
 use Rattle.shape_base.specs.declared.registry_event.RegistryEvent.TheVariants.{Registered, Ready, Removed, Took, Redefined}
-use Rattle.shape_base.specs.RegistryHistory.{Stands, Taken, redefined, redefinitions, ready_in, transaction_in, transactions, registrations, made_ready, had_ready, is_live, was_registered, registers, IsLegal}
+use Rattle.shape_base.specs.RegistryHistory.{Stands, Taken, Removal, removal_in, removals, was_removed, redefined, redefinitions, ready_in, transaction_in, transactions, registrations, made_ready, had_ready, is_live, was_registered, registers, IsLegal}
 use Rattle.shape_json.specs.ShapeHistory.{ShapeEvent, Snapped, snapshot_in}
 use Rattle.shape_json.specs.ShapeHistory as shape
 use Rattle.shape_lock.specs.Passes.{Sight}
@@ -35,7 +36,8 @@ use Rattle.shared_shapes.specs.declared.registry_data.RegistryData.{RegistryData
 use Rattle.shared_shapes.specs.Events.{Noted, Place, plain, began, place_in, events_of, place_of}
 use Rattle.shared_shapes.specs.Board.{Kept, IsKept, IsBoard, start_of, taken_lsns}
 use Rattle.shared_shapes.specs.Passes.{IsLegalFor, IsServed}
-use Rattle.shared_shapes.proofs.Places.{events_append, place_stays, place_new}
+use Rattle.shared_shapes.specs.Seats.{Seated, IsSeat, AreSeats}
+use Rattle.shared_shapes.proofs.Places.{events_append, place_stays, place_new, no_place}
 
 true≢false : true ≡ false → ⊥
 true≢false e = false≢true (sym e)
@@ -68,7 +70,7 @@ equal m n e = grind (arith, nat_tests)
 apart : (m n : ℕ) → (m == n) ≡ false → (n == m) ≡ false
 apart m n e = grind (arith, nat_tests)
 
-itself : (n : ℕ) → (n == n) ≡ true
+pub itself : (n : ℕ) → (n == n) ≡ true
 itself n = grind (arith, nat_tests)
 
 -- what is found after a value was put under a number: that value there, and elsewhere what was
@@ -81,7 +83,35 @@ put_all P m n x here rest q = subst (λ o. IfSome o (P q)) (sym (get-insert nat_
 pub cut_all : {X : Type 0} (P : ℕ → X → Type 0) (m : FinMap nat_cmp X) (n : ℕ) → ((q : ℕ) → IfSome (fin.get m q) (P q)) → (q : ℕ) → IfSome (fin.get (fin.remove m n) q) (P q)
 cut_all P m n all q = subst (λ o. IfSome o (P q)) (sym (get-remove nat_cmp_total m n q)) (if_cut (P q) (eq_by_cmp nat_cmp q n) (fin.get m q) (all q))
 
+-- a value that was put under a new number and taken away again
+pub put_cut : {X : Type 0} (m : FinMap nat_cmp X) (n : ℕ) (x : X) → fin.get m n ≡ None → fin.remove (fin.insert m n x) n ≡ m
+put_cut {X} m n x none = same_map nat_cmp_total exact_unsigned _ _ (λ q. get-remove nat_cmp_total (fin.insert m n x) n q ∙ ap (cond (eq_by_cmp nat_cmp q n) None) (get-insert nat_cmp_total m n x q) ∙ back (eq_by_cmp nat_cmp q n) (fin.get m q) (λ e. ap (fin.get m) (equal q n (sym (unsigned_tied q n) ∙ e)) ∙ none))
+  where
+    back : (b : Bool) (o : Option X) → (b ≡ true → o ≡ None) → cond b None (cond b (Some x) o) ≡ o
+    back true o f = sym (f refl)
+    back false o f = refl
+
 -- ---- histories
+
+or_true : (a b : Bool) → b ≡ true → (a || b) ≡ true
+or_true true b h = refl
+or_true false b h = h
+
+and_gone : (a b : Bool) → b ≡ true → (a && not b) ≡ false
+and_gone a true h = and_false a
+  where
+    and_false : (a : Bool) → (a && false) ≡ false
+    and_false true = refl
+    and_false false = refl
+and_gone a false h = absurd (false≢true h)
+
+removed_last : (es : List RegistryEvent) (n : ℕ) (cause : Cause) → was_removed (es ++ Removed n cause ∷ []) n ≡ true
+removed_last es n cause = let r : Removal = record { number = n; cause = cause } in
+    ap (λ (rs : List Removal). list_any (λ x. x.number == n) rs) (part_grows removal_in es (Removed n cause) r refl) ∙ any_more (λ (x : Removal). x.number == n) (removals es) r ∙ or_true (was_removed es n) (n == n) (itself n)
+
+-- a number that was removed is not live
+pub dead_after : {A : Type 0} (es : List (Noted A)) (n : ℕ) (cause : Cause) → is_live (events_of (es ++ plain (Removed n cause) ∷ [])) n ≡ false
+dead_after es n cause = ap (λ l. is_live l n) (events_append es (plain (Removed n cause) ∷ [])) ∙ and_gone (was_registered (events_of es ++ Removed n cause ∷ []) n) (was_removed (events_of es ++ Removed n cause ∷ []) n) (removed_last (events_of es) n cause)
 
 unmarked : (h : Bool) (marks : List Bool) → marks ≡ [] → (h ≡ true → marks ≡ true ∷ []) → h ≡ false
 unmarked true marks none f = absurd (let q = sym none ∙ f refl in cc)
@@ -130,6 +160,14 @@ module _ {A : Type 0} where
 
     pub fresh : was_registered (events_of es) (given + 1) ≡ false
     fresh = subst (λ k. was_registered (events_of es) (k + 1) ≡ false) (sym (b.count ∙ ap (λ s. s.given) b.stands.kept)) (never_registered about.limits.shapes (events_of es) facts)
+
+    -- nobody has a seat of the next number
+    pub unseated : (seats : FinMap nat_cmp (Seated A)) → AreSeats es seats → fin.get seats (given + 1) ≡ None
+    unseated seats all = vacant (fin.get seats (given + 1)) (all (given + 1))
+      where
+        vacant : (o : Option (Seated A)) → IfSome o (IsSeat es (given + 1)) → o ≡ None
+        vacant None h = refl
+        vacant (Some s) h = absurd (let q = sym (no_place es (given + 1) fresh) ∙ h.at in cc)
 
     -- what is kept for a number
     pub kept_here : (number : ℕ) (k : Kept A) → Some k ≡ fin.get registry.kept number → IsKept es number k

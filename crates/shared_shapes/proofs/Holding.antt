@@ -16,7 +16,7 @@ pub stood : {A : Type 0} (f f' : Option RegistryData) (about : RegistryData) (re
 stood f f' about registry fed given es same b = subst (λ (f : Option RegistryData). IsBoard about registry fed given f es) (sym same) b
 
 module _ {A : Type 0} (k h k' : RegSight A) (about : RegistryData) (registry : WithKept (Kept A)) (fed : Written ℕ) (given : ℕ)
-  (lock : IsSameLock k h × IsSameShare k h) (seen : IsPrefix k.seen h.seen) (own : mine h ≡ mine k) (lock' : IsSameLock h k' × IsSameShare h k') where
+    (lock : IsSameLock k h × IsSameShare k h) (seen : IsPrefix k.seen h.seen) (own : mine h ≡ mine k) (lock' : IsSameLock h k' × IsSameShare h k') where
   -- with these events
   pub steps_on : (made : List (Noted A)) → k'.seen ≡ h.seen ++ made → mine k' ≡ mine h ++ made → IsBoard about registry fed given h.fixed (h.seen ++ made) → StepsOn k k' made
   steps_on made seen' own' board = record {

@@ -1,6 +1,6 @@
 -- The place of a shape stays as events follow.
 use Rattle.std.proofs.Common.{◌≡◌, ℕ, Bool, true, false, List, [], ◌∷◌, ◌++◌, map, Option, Some, None, refl, sym, ap, ◌∙◌, subst}
-use Rattle.std.specs.Prelude.{◌||◌, ◌==◌, if◌then◌else◌}
+use Rattle.std.specs.Prelude.{◌||◌, ◌==◌, if◌then◌else◌, IsSomeAnd}
 use Rattle.std.proofs.lemmas.List.{map-append}
 use mathlib.Core.List.{IsPrefix}
 use Rattle.shape_base.specs.declared.registry_event.RegistryEvent.{RegistryEvent}
@@ -20,6 +20,10 @@ unregistered (Removed m c) es n h = (refl, h)
 unregistered (Took l x) es n h = (refl, h)
 unregistered (Redefined d) es n h = (refl, h)
 
+some_on : {X : Type 0} (o q : Option X) (P : X → Type 0) → ((x : X) → o ≡ Some x → q ≡ Some x) → IsSomeAnd o P → IsSomeAnd q P
+some_on None q P f h = absurd h
+some_on (Some x) q P f h = subst (λ o. IsSomeAnd o P) (sym (f x refl)) h
+
 module _ {A : Type 0} where
   pub events_append : (es fs : List (Noted A)) → events_of (es ++ fs) ≡ events_of es ++ events_of fs
   events_append es fs = map-append (λ (e : Noted A). e.event) es fs
@@ -34,6 +38,9 @@ module _ {A : Type 0} where
 
   pub place_on : (es gs : List (Noted A)) (n : ℕ) (p : Place A) → IsPrefix es gs → place_of es n ≡ Some p → place_of gs n ≡ Some p
   place_on es gs n p pre h = subst (λ l. place_of l n ≡ Some p) pre.1 (place_stays es pre.0 n p h)
+
+  pub placed_on : (es gs : List (Noted A)) (n : ℕ) (P : Place A → Type 0) → IsPrefix es gs → IsSomeAnd (place_of es n) P → IsSomeAnd (place_of gs n) P
+  placed_on es gs n P pre h = some_on (place_of es n) (place_of gs n) P (λ p e. place_on es gs n p pre e) h
 
   -- a number that was not registered has no place
   pub no_place : (es : List (Noted A)) (n : ℕ) → was_registered (events_of es) n ≡ false → place_of es n ≡ None

@@ -1,5 +1,7 @@
 -- What the calls on a shared registry do.
 use Rattle.std.specs.Prelude.{◌≡◌, ℕ, Bool, List, [], ◌∷◌, Option, Some, None}
+use Rattle.std.specs.Ordering.{nat_cmp}
+use Rattle.std.specs.FinMap.{FinMap}
 use Rattle.std.specs.FinMap as fin
 use Rattle.lock_events.specs.Written.{Written}
 use Rattle.shape_base.specs.declared.limits.Limits.{Limits}
@@ -21,7 +23,7 @@ use Rattle.shared_shapes.specs.declared.started.StartError.TheVariants.{Exists, 
 use Rattle.shared_shapes.specs.Events.{Noted, Place, began, place_in, events_of}
 use Rattle.shared_shapes.specs.Board.{Kept}
 use Rattle.shared_shapes.specs.Passes.{RegSight, StepsOn, Keeps, shapes_in}
-use Rattle.shared_shapes.specs.Seats.{Seated, RegSeen}
+use Rattle.shared_shapes.specs.Seats.{Seated}
 
 -- ---- a registration
 
@@ -39,11 +41,11 @@ module _ {A : Type 0} where
     pub starts : StartsAs test limits k.fixed
 
   -- A shape was registered, with the last transaction taken before, and the caller has a pass of it and the rights on it.
-  pub record Registers (p p' : RegSeen A) (identity : List ℕ) (table : ℕ) (test : A) (limits : Limits) (s : Started) : Type 0 where
+  pub record Registers (k k' : RegSight A) (seats seats' : FinMap nat_cmp (Seated A)) (identity : List ℕ) (table : ℕ) (test : A) (limits : Limits) (s : Started) : Type 0 where
     pub place : Place A
     pub pass : Sight A
-    pub on : StepsOn p.reg p'.reg (began (Registered s.number identity table s.last) place ∷ [])
-    pub seats : p'.seats ≡ fin.insert p.seats s.number (record { pass = pass; right = Some place.ready })
+    pub on : StepsOn k k' (began (Registered s.number identity table s.last) place ∷ [])
+    pub seats_are : seats' ≡ fin.insert seats s.number (record { pass = pass; right = Some place.ready })
     pub lock : (pass.lock ≡ place.lock) × (pass.fixed ≡ place.about)
     pub new : (pass.seen ≡ []) × (pass.own ≡ [])
     pub starts : StartsAs test limits place.about
@@ -62,19 +64,6 @@ module _ {A : Type 0} where
   IsUnstarted k k' identity (TooMany live most) = StepsOn k k' [] × IsStartError (shapes_in k'.fixed) (events_of k'.seen) identity (TooMany live most)
   IsUnstarted k k' identity NumbersSpent = StepsOn k k' [] × IsStartError (shapes_in k'.fixed) (events_of k'.seen) identity NumbersSpent
   IsUnstarted k k' identity OutOfMemory = Keeps k k'
-
--- ---- a step on one shape
-
-module _ {A : Type 0} (knows : A → Knows) (unread : A → Values → ℕ → Bool) where
-  -- The second is the first after a step of its holder on the shape with that number, which made these events; afterwards this holds of the pass of the shape. No other
-  -- pass of a shape changes.
-  pub record ActsOn (p p' : RegSeen A) (number : ℕ) (made : List ShapeEvent) (fact : Sight A → Type 0) : Type 0 where
-    pub before : Seated A
-    pub after : Seated A
-    pub was : fin.get p.seats number ≡ Some before
-    pub is : p'.seats ≡ fin.insert p.seats number after
-    pub on : GoesOn knows unread before.pass after.pass made
-    pub then_ : fact after.pass
 
 -- ---- a new registry
 

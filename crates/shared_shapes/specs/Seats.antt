@@ -13,11 +13,6 @@ pub record Seated (A : Type 0) : Type 0 where
   pub pass : Sight A
   pub right : Option TableId
 
--- A pass of the registry, and one of each shape that its holder met, by number
-pub record RegSeen (A : Type 0) : Type 0 where
-  pub reg : RegSight A
-  pub seats : FinMap nat_cmp (Seated A)
-
 module _ {A : Type 0} where
   -- the pass is of the shape that was registered under the number, and the right is that of its registration
   pub record IsSeat (es : List (Noted A)) (number : ℕ) (s : Seated A) : Type 0 where

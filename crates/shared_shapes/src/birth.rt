@@ -50,18 +50,8 @@ impl<T: RowTest> Birth<T> {
         let pass = Snapshot::of(&first);
         let trace = ready.trace();
         let mark = Snapshot::of(&trace);
-        let slot = Slot::new(
-            lock,
-            Lent { pass: Some(second) },
-            trace,
-            feed,
-        );
-        let seat = Seat::new(
-            other,
-            Lent { pass: Some(first) },
-            seal,
-            ready,
-        );
+        let slot = Slot::new(lock, Lent { pass: Some(second) }, trace, feed);
+        let seat = Seat::new(other, Lent { pass: Some(first) }, seal, ready);
         Ok(Birth {
             identity,
             table,

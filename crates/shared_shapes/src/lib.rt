@@ -19,8 +19,8 @@ mod step;
 mod steps;
 
 pub use board::Board;
-pub use registry_data::RegistryData;
 pub use passes::RegPass;
+pub use registry_data::RegistryData;
 pub use shared::Shared;
 pub use started::{StartError, Started};
 pub use step::RegistryStep;

@@ -1,22 +1,23 @@
 //! The registry's lock, and the calls on it.
-ghost use Rattle.std.specs.Prelude.{◌≡◌, ◌∷◌, [], Bool, false, None, Some, IsSome, IfOk, IfErr, OnErr};
+ghost use Rattle.std.specs.Prelude.{◌≡◌, ◌∷◌, [], IfOk, IfErr, OnErr};
 ghost use Rattle.std.specs.FinMap as fin;
 ghost use Rattle.shape_base.specs.declared.registry_event.RegistryEvent.TheVariants as events;
-ghost use Rattle.shape_base.specs.RegistryHistory.{is_live};
-ghost use Rattle.shape_json.specs.ShapeHistory.{Dropped};
-ghost use Rattle.shape_lock.specs.Starts.{drop_in};
-ghost use Rattle.shape_lock.specs.Passes.{made_if};
 ghost use Rattle.shape_registry.specs.ByHistory.{standing_after};
 ghost use Rattle.shared_shapes.specs.Events.{plain, events_of};
-ghost use Rattle.shared_shapes.specs.Passes.{StepsOn, IsServed, removed_if};
-ghost use Rattle.shared_shapes.specs.Calls.{Registers, IsUnstarted, ActsOn, IsStartedWith};
+ghost use Rattle.shared_shapes.specs.Passes.{StepsOn, IsServed};
+ghost use Rattle.shared_shapes.specs.Seats.{AreSeats};
+ghost use Rattle.shared_shapes.specs.Calls.{Registers, IsUnstarted, IsStartedWith};
 
+use crate::birth::Birth;
 use crate::board::Board;
+use crate::lent::Lent;
+use crate::numbered::Numbered;
 use crate::passes::RegPass;
 use crate::started::{StartError, Started};
+use crate::steps;
 use front_lock::FrontLock;
 use lock_events::Pen;
-use shape_base::{Cause, Limits, OutOfMemory, RowTest, ServedTables, TableDef, TableDefs, Text};
+use shape_base::{Limits, OutOfMemory, RowTest, ServedTables, TableDef, TableDefs, Text};
 use shape_registry::Standing;
 use std::alloc::Global;
 use std::sync::Wait;
@@ -44,7 +45,9 @@ impl<T: RowTest> Shared<T> {
         let mut pen = Pen::new(alloc)?;
         let board = Board::new(alloc, limits, tables, definitions, run, pen.trace())?;
         let (lock, pass) = FrontLock::new(alloc, board)?;
-        Ok((Shared { lock, limits }, RegPass::new(alloc, pass)))
+        let reg = Lent { pass: Some(pass) };
+        let seats = Numbered::new(alloc);
+        Ok((Shared { lock, limits }, RegPass { reg, seats }))
     }
 
     /// The limits with which it was started.
@@ -56,22 +59,26 @@ impl<T: RowTest> Shared<T> {
 
     /// How the handle with a number stands, by the history that the pass has seen after the call.
     pub fn standing<R: Wait>(&self, rt: &R, pass: &mut RegPass<T>, number: u64) -> Standing
-        requires { pass.old.reg.lock ≡ self.now.lock }
+        requires lock { pass.old.reg.lock ≡ self.now.lock }
+        requires known { AreSeats pass.old.reg.seen pass.old.seats }
         ensures standing { result ≡ standing_after (events_of pass.new.reg.seen) number }
         ensures on { StepsOn pass.old.reg pass.new.reg [] }
         ensures seats { pass.new.seats ≡ pass.old.seats }
+        ensures known { AreSeats pass.new.reg.seen pass.new.seats }
     {
-        pass.standing(rt, &self.lock, number)
+        steps::standing(rt, &self.lock, &mut pass.reg, number)
     }
 
     /// The table that the definition names has this definition from now on.
     pub fn redefine<R: Wait>(&self, rt: &R, pass: &mut RegPass<T>, definition: TableDef)
         requires lock { pass.old.reg.lock ≡ self.now.lock }
+        requires known { AreSeats pass.old.reg.seen pass.old.seats }
         requires served { IsServed pass.old.reg.fixed definition.table }
         ensures on { StepsOn pass.old.reg pass.new.reg (plain (events.Redefined definition) ∷ []) }
         ensures seats { pass.new.seats ≡ pass.old.seats }
+        ensures known { AreSeats pass.new.reg.seen pass.new.seats }
     {
-        pass.redefine(rt, &self.lock, definition);
+        steps::redefine(rt, &self.lock, &mut pass.reg, definition);
     }
 
     /// Registers a shape of this test, which waits for its snapshot. The caller alone may give it that.
@@ -86,23 +93,16 @@ impl<T: RowTest> Shared<T> {
         test: &T,
     ) -> Result<Started, StartError>
         requires lock { pass.old.reg.lock ≡ self.now.lock }
+        requires known { AreSeats pass.old.reg.seen pass.old.seats }
         requires served { IsServed pass.old.reg.fixed (T.knows test.now).definition.table }
-        ensures registered { IfOk result (Registers pass.old pass.new (T.identity_of test.now) (T.knows test.now).definition.table test.now self.now.limits) }
+        ensures registered { IfOk result (Registers pass.old.reg pass.new.reg pass.old.seats pass.new.seats (T.identity_of test.now) (T.knows test.now).definition.table test.now self.now.limits) }
         ensures refused { IfErr result (IsUnstarted pass.old.reg pass.new.reg (T.identity_of test.now)) }
         ensures seats { OnErr result (pass.new.seats ≡ pass.old.seats) }
+        ensures known { AreSeats pass.new.reg.seen pass.new.seats }
     {
-        pass.register(rt, alloc, &self.lock, self.limits, test)
-    }
-
-    /// Drops the shape with a number that the pass registered, where it was not dropped before, and removes the number from the registry, where it is still live.
-    pub fn drop_shape<R: Wait>(&self, rt: &R, pass: &mut RegPass<T>, number: u64, cause: Cause)
-        requires lock { pass.old.reg.lock ≡ self.now.lock }
-        requires registered { IsSome (fin.get pass.old.seats number) }
-        ensures shape { (did : Bool) × ActsOn T.knows T.unread pass.old pass.new number (made_if did (Dropped cause)) (λ k. IsSome (drop_in T.knows T.unread k.fixed k.seen)) }
-        ensures registry { (wrote : Bool) × StepsOn pass.old.reg pass.new.reg (removed_if wrote number cause) }
-        ensures dead { is_live (events_of pass.new.reg.seen) number ≡ false }
-    {
-        pass.drop_shape(rt, number, cause);
-        pass.remove(rt, &self.lock, number, cause);
+        let Ok(birth) = Birth::new(alloc, test, self.limits) else {
+            return Err(StartError::OutOfMemory);
+        };
+        steps::register(rt, alloc, &self.lock, &mut pass.reg, &mut pass.seats, birth)
     }
 }

@@ -14,10 +14,22 @@ use std::snapshot::Snapshot;
 /// What a step of the registry is made of.
 #[derive(Drop)]
 pub(crate) enum Change {
-    Registered { number: u64, identity: Snapshot<Text>, table: u32, last: Option<u32> },
-    Ready { number: u64 },
-    Removed { number: u64, cause: Cause },
-    Redefined { definition: Snapshot<TableDef> },
+    Registered {
+        number: u64,
+        identity: Snapshot<Text>,
+        table: u32,
+        last: Option<u32>,
+    },
+    Ready {
+        number: u64,
+    },
+    Removed {
+        number: u64,
+        cause: Cause,
+    },
+    Redefined {
+        definition: Snapshot<TableDef>,
+    },
 }
 
 /// One event of the registry. Contracts see it as the `RegistryEvent`, with the lock of the shape that a registration brings; no program keeps a list of them.

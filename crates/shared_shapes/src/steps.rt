@@ -1,5 +1,5 @@
 //! Single steps on the registry's lock.
-ghost use Rattle.std.specs.Prelude.{◌≡◌, ◌∷◌, [], false, Some, IsSome, IsSomeAnd, IfOk, IfErr, OnErr};
+ghost use Rattle.std.specs.Prelude.{◌≡◌, ◌+◌, ◌++◌, ◌∷◌, [], false, Some, IsSome, IsSomeAnd, IfOk, IfErr, OnErr};
 ghost use Rattle.std.specs.FinMap as fin;
 ghost use Rattle.shape_base.specs.declared.registry_event.RegistryEvent.TheVariants as events;
 ghost use Rattle.shape_base.specs.RegistryHistory.{is_live, last_id};
@@ -140,6 +140,7 @@ fn enter<T: RowTest>(
     requires served { IsServed held.now.fixed table }
     requires seats { AreSeats held.now.seen seats.old }
     ensures stands { IfOk result (λ n. IsBoard state.new.about state.new.registry state.new.fed state.new.given held.now.fixed (held.now.seen ++ began (events.Registered n identity table (last_id (events_of held.now.seen))) (place_in slot.pass slot.ready) ∷ [])) }
+    ensures number { IfOk result (λ n. n ≡ state.old.given + 1) }
     ensures seats { IfOk result (λ n. seats.new ≡ fin.insert seats.old n seat) }
     ensures refused { IfErr result (IsStartError (shapes_in held.now.fixed) (events_of held.now.seen) identity) }
     ensures same { OnErr result (IsBoard state.new.about state.new.registry state.new.fed state.new.given held.now.fixed held.now.seen) }
@@ -196,16 +197,7 @@ pub(crate) fn register<T: RowTest, R: Wait>(
     let (held, mut state) = lock.take(rt, pass);
     let last = state.last(&held);
     let name = Snapshot::of(&identity);
-    match enter(
-        alloc,
-        &held,
-        &mut state,
-        seats,
-        identity,
-        table,
-        slot,
-        seat,
-    ) {
+    match enter(alloc, &held, &mut state, seats, identity, table, slot, seat) {
         Ok(number) => {
             let event = registered(number, name, table, last, born, ready);
             me.pass = Some(give_with(lock, held, state, &Snapshot::of(&event)));

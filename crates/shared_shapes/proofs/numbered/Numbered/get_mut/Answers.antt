@@ -15,7 +15,7 @@ returns g c = (
   (
     refl,
     (λ w. on_some c.get_mut.result _ _ c.get_mut.ensures.value (λ there. insert_in c.self.inside.values (c.get_mut.follows.lender w) c.args.number w ((c.get_mut.follows.holds w).3 there).0
-          ∙ ap (λ m. fin.insert m c.args.number w) c.self.view_is)),
+        ∙ ap (λ m. fin.insert m c.args.number w) c.self.view_is)),
     ap map_in c.get_mut.follows.holds-at-none ∙ c.self.view_is,
   ),
   record {
