@@ -1,5 +1,5 @@
 -- A registry that stands for its events, after one event more.
-use Rattle.std.proofs.Common.{◌≡◌, ℕ, ◌+◌, ◌<◌, Bool, true, false, cond, List, [], ◌∷◌, ◌++◌, map, length, Option, Some, None, refl, sym, ap, ◌∙◌, subst, append-nil, nat_cmp, arith}
+use Rattle.std.proofs.Common.{◌≡◌, ℕ, ◌+◌, ◌<◌, Bool, true, false, cond, List, [], ◌∷◌, ◌++◌, map, length, Option, Some, None, refl, sym, ap, ◌∙◌, subst, nat_cmp, arith}
 use Rattle.std.proofs.lemmas.Bool.Decides.{nat_tests}
 use Rattle.std.proofs.lemmas.Bool.{false≢true}
 use Rattle.std.specs.Prelude.{◌||◌, ◌&&◌, not, ◌==◌, if◌then◌else◌, IfSome, IsSome, slice_set}
@@ -14,8 +14,8 @@ use Rattle.lock_events.specs.Written.{Written}
 use Rattle.shape_base.specs.declared.cause.Cause.{Cause}
 use Rattle.shape_base.specs.declared.definition.TableDef.{TableDef}
 use Rattle.shape_base.specs.declared.registry_event.RegistryEvent.{RegistryEvent}
-use Rattle.shape_base.specs.declared.registry_event.RegistryEvent.TheVariants.{Registered, Ready, Removed, Took, Redefined}
-use Rattle.shape_base.specs.RegistryHistory.{Stands, Taken, Removal, removal_in, removals, was_removed, redefined, redefinitions, ready_in, transaction_in, transactions, registrations, made_ready, had_ready, is_live, was_registered, registers, IsLegal}
+use Rattle.shape_base.specs.declared.registry_event.RegistryEvent.TheVariants.{Registered, Ready, Removed, Redefined}
+use Rattle.shape_base.specs.RegistryHistory.{Stands, Taken, Removal, removal_in, removals, was_removed, redefined, redefinitions, ready_in, transaction_in, transactions, made_ready, had_ready, is_live, was_registered}
 use Rattle.shape_json.specs.ShapeHistory.{ShapeEvent, Snapped, snapshot_in}
 use Rattle.shape_json.specs.ShapeHistory as shape
 use Rattle.shape_lock.specs.Passes.{Sight}
@@ -33,7 +33,7 @@ use Rattle.shared_shapes.specs.Reasons.{reason_of}
 use Rattle.shape_registry.proofs.Growing.{part_stays, part_grows, any_more}
 use Rattle.shape_registry.proofs.Legal.{Facts, facts_of, never_registered, ready_stays}
 use Rattle.shared_shapes.specs.declared.registry_data.RegistryData.{RegistryData}
-use Rattle.shared_shapes.specs.Events.{Noted, Place, plain, began, place_in, events_of, place_of}
+use Rattle.shared_shapes.specs.Events.{Noted, plain, began, place_in, events_of, place_of}
 use Rattle.shared_shapes.specs.Board.{Kept, IsKept, IsBoard, start_of, taken_lsns}
 use Rattle.shared_shapes.specs.Passes.{IsLegalFor, IsServed}
 use Rattle.shared_shapes.specs.Seats.{Seated, IsSeat, AreSeats}

@@ -1,7 +1,7 @@
 -- What a pass knows after a step on the registry's lock.
-use Rattle.std.proofs.Common.{◌≡◌, ℕ, List, [], ◌∷◌, ◌++◌, Option, refl, sym, ap, ◌∙◌, subst, append-nil}
+use Rattle.std.proofs.Common.{◌≡◌, ℕ, List, [], ◌++◌, Option, sym, ap, ◌∙◌, subst, append-nil}
 use mathlib.Core.List.{IsPrefix}
-use Rattle.front_lock.specs.Passes.{Known, mine, IsSameLock, IsSameShare}
+use Rattle.front_lock.specs.Passes.{mine, IsSameLock, IsSameShare}
 use Rattle.lock_events.specs.Written.{Written}
 use Rattle.shape_lock.proofs.Lengths.{prefix_trans}
 use Rattle.shape_registry.specs.Registry.{WithKept}

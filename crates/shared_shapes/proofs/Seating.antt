@@ -1,6 +1,6 @@
 -- The seats of one caller as registry and shapes go on.
-use Rattle.std.proofs.Common.{◌≡◌, ℕ, Bool, false, List, Option, Some, None, refl, sym, ap, ◌∙◌, subst, nat_cmp}
-use Rattle.std.specs.Prelude.{◌==◌, IfSome, Result, Ok, Err, IfOk, IfErr, OnErr}
+use Rattle.std.proofs.Common.{◌≡◌, ℕ, Bool, List, Option, Some, None, refl, sym, subst, nat_cmp}
+use Rattle.std.specs.Prelude.{IfSome, Result, Ok, Err, IfOk, IfErr, OnErr}
 use Rattle.lock_events.specs.Written.{Written}
 use Rattle.shape_base.specs.declared.limits.Limits.{Limits}
 use Rattle.shape_lock.specs.Passes.{Sight}
@@ -13,7 +13,7 @@ use Rattle.shared_shapes.specs.Calls.{IsBorn, IsUnstarted}
 use Rattle.std.specs.FinMap as fin
 use Rattle.std.specs.FinMap.{FinMap, get-empty}
 use mathlib.Core.List.{IsPrefix}
-use Rattle.shared_shapes.specs.Events.{Noted, Place, place_in, place_of}
+use Rattle.shared_shapes.specs.Events.{Noted, place_in, place_of}
 use Rattle.shared_shapes.specs.Seats.{Seated, IsSeat, AreSeats}
 use Rattle.shared_shapes.proofs.Places.{place_on}
 use Rattle.shared_shapes.proofs.Boards.{put_all}

@@ -1,13 +1,13 @@
 -- What a registry under its lock stands for.
-use Rattle.std.specs.Prelude.{◌≡◌, ℕ, Bool, true, List, [], ◌∷◌, Option, Some, None, IfSome, IsSome, map, length}
+use Rattle.std.specs.Prelude.{◌≡◌, ℕ, Bool, true, List, [], ◌∷◌, Option, Some, IfSome, IsSome, map}
 use Rattle.std.specs.FinMap as fin
 use Rattle.lock_events.specs.Written.{Written}
-use Rattle.shape_base.specs.RegistryHistory.{RegistryStart, Stands, Taken, transactions, registrations, had_ready, IsLegal}
+use Rattle.shape_base.specs.RegistryHistory.{RegistryStart, Stands, Taken, transactions, had_ready}
 use Rattle.shape_json.specs.ShapeHistory.{snapshot_in}
 use Rattle.shape_lock.specs.Passes.{Sight, IsFedBy}
 use Rattle.shape_registry.specs.Registry.{WithKept}
 use Rattle.shared_shapes.specs.declared.registry_data.RegistryData.{RegistryData}
-use Rattle.shared_shapes.specs.Events.{Noted, Place, events_of, place_of, place_in}
+use Rattle.shared_shapes.specs.Events.{Noted, events_of, place_of, place_in}
 
 -- What is kept for a live number: a pass of its shape, what the list of its readiness said, and the list with which it is fed, until the ingester has that
 pub record Kept (A : Type 0) : Type 0 where

@@ -10,17 +10,14 @@ use Rattle.shape_base.specs.declared.registry_event.RegistryEvent.TheVariants.{R
 use Rattle.shape_base.specs.declared.served.Served.{Served}
 use Rattle.shape_base.specs.declared.definition.TableDef.{TableDef}
 use Rattle.shared_shapes.specs.declared.registry_data.RegistryData.{RegistryData}
-use Rattle.shape_base.specs.Tables.{Values}
-use Rattle.shape_base.specs.Shape.{Knows}
-use Rattle.shape_json.specs.ShapeHistory.{ShapeEvent}
 use Rattle.shape_lock.specs.declared.start.ShapeStart.{ShapeStart}
-use Rattle.shape_lock.specs.Passes.{Sight, GoesOn}
+use Rattle.shape_lock.specs.Passes.{Sight}
 use Rattle.shape_registry.specs.ByHistory.{refusal_after}
 use Rattle.shape_registry.specs.declared.refusal.Refusal.TheVariants as refusals
 use Rattle.shared_shapes.specs.declared.started.Started.{Started}
 use Rattle.shared_shapes.specs.declared.started.StartError.{StartError}
 use Rattle.shared_shapes.specs.declared.started.StartError.TheVariants.{Exists, TooMany, NumbersSpent, OutOfMemory}
-use Rattle.shared_shapes.specs.Events.{Noted, Place, began, place_in, events_of}
+use Rattle.shared_shapes.specs.Events.{Place, began, place_in, events_of}
 use Rattle.shared_shapes.specs.Board.{Kept}
 use Rattle.shared_shapes.specs.Passes.{RegSight, StepsOn, Keeps, shapes_in}
 use Rattle.shared_shapes.specs.Seats.{Seated}

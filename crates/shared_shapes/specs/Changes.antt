@@ -7,7 +7,7 @@ use Rattle.shape_base.specs.declared.registry_event.RegistryEvent.TheVariants as
 use Rattle.shape_lock.specs.Passes.{Sight}
 use Rattle.shared_shapes.specs.declared.step.Change.{Change}
 use Rattle.shared_shapes.specs.declared.step.Change.TheVariants.{Registered, Ready, Removed, Redefined}
-use Rattle.shared_shapes.specs.Events.{Noted, Place, plain, began, place_in}
+use Rattle.shared_shapes.specs.Events.{Noted, plain, began, place_in}
 
 abbrev pub event_of : Change → RegistryEvent
 event_of (Registered number identity table last) = events.Registered number identity.value table last

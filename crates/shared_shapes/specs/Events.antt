@@ -1,7 +1,6 @@
 -- The history of a registry that threads share: its events, each with the place of the shape that a registration brings.
 use Rattle.std.specs.Prelude.{ℕ, Bool, List, [], ◌∷◌, Option, None, Some, map, if◌then◌else◌}
 use Rattle.atomic_table.specs.Seated.{TableId}
-use Rattle.front_lock.specs.Passes.{Known}
 use Rattle.lock_events.specs.Written.{Written}
 use Rattle.shape_base.specs.declared.registry_event.RegistryEvent.{RegistryEvent}
 use Rattle.shape_base.specs.RegistryHistory.{registers}

@@ -1,12 +1,11 @@
 -- What contracts see of all passes of one caller.
-use Rattle.std.specs.Prelude.{◌≡◌, ℕ, List, [], Option, Some, IfSome}
+use Rattle.std.specs.Prelude.{◌≡◌, ℕ, List, Option, Some, IfSome}
 use Rattle.std.specs.Ordering.{nat_cmp}
 use Rattle.std.specs.FinMap.{FinMap}
 use Rattle.std.specs.FinMap as fin
 use Rattle.atomic_table.specs.Seated.{TableId}
 use Rattle.shape_lock.specs.Passes.{Sight}
 use Rattle.shared_shapes.specs.Events.{Noted, Place, place_of}
-use Rattle.shared_shapes.specs.Passes.{RegSight}
 
 -- A pass of one shape. Where the holder registered the shape and gave it no snapshot yet, the list that is going to get a mark with its readiness
 pub record Seated (A : Type 0) : Type 0 where

@@ -1,4 +1,4 @@
-use Rattle.std.proofs.Common.{◌≡◌, ◌+◌, ◌++◌, ◌∷◌, [], sym, ap, ◌∙◌, subst}
+use Rattle.std.proofs.Common.{◌+◌, ◌++◌, ◌∷◌, [], sym, ap, ◌∙◌, subst}
 use Rattle.shape_base.specs.declared.registry_event.RegistryEvent.TheVariants.{Registered}
 use Rattle.shape_registry.specs.State.{id_in}
 use Rattle.shape_registry.proofs.Laws.{last_by_history}
