@@ -1,0 +1,4 @@
+pub mod Places
+pub mod Boards
+pub mod Holding
+pub mod Seating

@@ -1,0 +1,130 @@
+//! What one caller has of one shape.
+ghost use Rattle.std.specs.Prelude.{◌≡◌, ◌∷◌, [], List, Option, None, Some, IsSome, IfOk, IfErr, OnOk, OnErr, map};
+ghost use Rattle.std.specs.Arc.{arc_value};
+ghost use Rattle.shape_json.specs.ShapeHistory.{Snapped, Dropped};
+ghost use Rattle.shape_snapshot.specs.Taken.{HasTaken};
+ghost use Rattle.shape_state.specs.Reading.{reader_of};
+ghost use Rattle.shape_state.specs.Answers.{IsReadyError};
+ghost use Rattle.shape_lock.specs.Starts.{drop_in};
+ghost use Rattle.shape_lock.specs.Passes.{GoesOn, Owes, Suits, made_if, snapshot_of};
+
+use crate::lent::Lent;
+use crate::rights::Rights;
+use front_lock::{FrontLock, Note};
+use lock_events::Pen;
+use shape_base::{Cause, Row, RowTest};
+use shape_lock::{Locked, drop_shape, finish};
+use shape_snapshot::Snap;
+use shape_state::ReadyError;
+use std::marker::Model;
+use std::snapshot::Snapshot;
+use std::sync::{Arc, Wait};
+
+/// A pass of a shape, with its lock. The rights are with the caller that registered the shape, until it gave the snapshot.
+#[derive(Drop)]
+pub(crate) struct Seat<T: RowTest> {
+    lock: Arc<FrontLock<Locked<T>>>,
+    pass: Lent<Locked<T>>,
+    rights: Option<Rights>,
+}
+
+impl<T: RowTest> Model for Seat<T> {
+    ghost use Rattle.std.specs.Prelude.{◌≡◌, [], IfSome};
+    ghost use Rattle.std.specs.Arc.{arc_value};
+    ghost use Rattle.shape_lock.specs.Passes.{Owes};
+    ghost use Rattle.shared_shapes.specs.Seats.{Seated};
+    ghost use Rattle.shared_shapes.specs.Rights.{right_in};
+
+    ghost Value = { Seated T };
+
+    ghost view = { λ s. record { pass = s.pass; right = right_in s.rights } };
+
+    ghost invariant = { λ s. (s.pass.lock ≡ arc_value s.lock) × IfSome s.rights (λ r. Owes s.pass.fixed r.seal × (r.ready.list ≡ [])) };
+}
+
+impl<T: RowTest> Seat<T> {
+    /// The seat of the caller that registered a shape.
+    pub(crate) fn new(
+        lock: Arc<FrontLock<Locked<T>>>,
+        pass: Lent<Locked<T>>,
+        seal: Pen<bool>,
+        ready: Pen<bool>,
+    ) -> Seat<T>
+        requires pass { pass.lock ≡ arc_value lock }
+        requires seal { Owes pass.fixed seal }
+        requires ready { ready.list ≡ [] }
+        ensures { result ≡ record { pass = pass; right = Some ready.of } }
+    {
+        Seat {
+            lock,
+            pass,
+            rights: Some(Rights { seal, ready }),
+        }
+    }
+
+    /// Drops the shape, and says whether this call did: it does not where the shape was dropped before.
+    pub(crate) fn drop_shape<R: Wait>(&mut self, rt: &R, cause: Cause) -> bool
+        ensures right { self.new.right ≡ self.old.right }
+        ensures on { GoesOn T.knows T.unread self.old.pass self.new.pass (made_if result (Dropped cause)) }
+        ensures dropped { IsSome (drop_in T.knows T.unread self.new.pass.fixed self.new.pass.seen) }
+    {
+        let Some(pass) = self.pass.pass.take() else {
+            unreachable!()
+        };
+        let (pass, did) = drop_shape(rt, &self.lock, pass, cause);
+        self.pass.pass = Some(pass);
+        did
+    }
+
+    /// What its pass has seen.
+    pub(crate) fn note(&mut self) -> Note<Locked<T>>
+        ensures kept { self.new ≡ self.old }
+        ensures note { (result.lock ≡ self.old.pass.lock) × (result.seen ≡ self.old.pass.seen) }
+    {
+        let Some(mut pass) = self.pass.pass.take() else {
+            unreachable!()
+        };
+        let Ok(note) = self.lock.note(&mut pass) else {
+            unreachable!()
+        };
+        self.pass.pass = Some(pass);
+        note
+    }
+
+    /// Gives the shape its snapshot, with the right that the seat has. Ok has the cause where a commit that was buffered drops the shape in the same step, and the right to make
+    /// the number ready.
+    pub(crate) fn finish<R: Wait>(
+        &mut self,
+        rt: &R,
+        snap: Snap<T>,
+        rows: &Vec<Snapshot<Row>>,
+    ) -> Result<(Option<Cause>, Pen<bool>), ReadyError>
+        requires right { IsSome self.old.right }
+        requires suits { Suits self.old.pass.fixed snap.emitter.test snap.kept.log.least }
+        requires taken { HasTaken (reader_of (T.knows snap.emitter.test) (T.unread snap.emitter.test)) snap.limits snap.kept (map (λ r. r.value) rows.now.items) }
+        ensures on { OnOk result (GoesOn T.knows T.unread self.old.pass self.new.pass (Snapped (snapshot_of (T.knows snap.emitter.test) snap.vis (map (λ r. r.value) rows.now.items)) ∷ [])) }
+        ensures left { IfOk result (λ r. r.0 ≡ drop_in T.knows T.unread self.new.pass.fixed self.new.pass.seen) }
+        ensures right { IfOk result (λ r. (self.old.right ≡ Some r.1.of) × (r.1.list ≡ []) × (self.new.right ≡ None)) }
+        ensures same { OnErr result (GoesOn T.knows T.unread self.old.pass self.new.pass [] × (self.new.right ≡ self.old.right)) }
+        ensures refused { IfErr result (IsReadyError (drop_in T.knows T.unread self.new.pass.fixed self.new.pass.seen)) }
+    {
+        let Some(mut rights) = self.rights.take() else {
+            unreachable!()
+        };
+        let Some(pass) = self.pass.pass.take() else {
+            unreachable!()
+        };
+        let (pass, done) = finish(rt, &self.lock, pass, &mut rights.seal, snap, rows);
+        self.pass.pass = Some(pass);
+        match done {
+            Ok(left) => {
+                let Rights { seal: _, ready } = rights;
+                Ok((left, ready))
+            }
+            Err(e) => {
+                self.rights = Some(rights);
+                Err(e)
+            }
+        }
+    }
+}
