@@ -1,0 +1,5 @@
+pub mod Words
+pub mod Keys
+pub mod Records
+pub mod Catalogs
+pub mod Headlines

@@ -1,0 +1,5 @@
+pub mod Settings
+pub mod Script
+pub mod Tables
+pub mod Played
+pub mod Headline

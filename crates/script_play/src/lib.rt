@@ -1,0 +1,13 @@
+//! Scripts before they are run and as they are played: the words of a command line, the tables and the events of a list of records, and what their play owes a history.
+#![tactic(auto)]
+
+mod cause;
+pub mod laws;
+mod settings;
+mod steps;
+mod tables;
+
+pub use cause::{ScriptCause, cause_for};
+pub use settings::{are_words, limits_of};
+pub use steps::{Step, step_of};
+pub use tables::{is_declared, options_of};
