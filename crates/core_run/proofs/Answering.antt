@@ -125,6 +125,5 @@ right_all o w s (e ∷ events) (step ∷ steps) (now ∷ said) next leads put la
     )
 
 pub answers_are_right : RepliesAreLawful → Headline → AnswersAreRight
-answers_are_right lawful right o h step events said core stands start told =
-    let w = world_of o h step stands.next.core.server in
-    right_all o w at_start events stands.steps said stands.next stands.leads stands.outs (lawful o h step events stands.steps stands.next start stands.leads told) (right o h step events stands.steps stands.next start stands.leads told).blocks
+answers_are_right lawful right o h step events steps next said start leads put told =
+    right_all o (world_of o h step next.core.server) at_start events steps said next leads put (lawful o h step events steps next start leads told) (right o h step events steps next start leads told).blocks

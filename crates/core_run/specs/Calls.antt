@@ -86,7 +86,7 @@ AreRightAnswers w xs [] (now ∷ said) = ⊥
 AreRightAnswers w xs (step ∷ steps) [] = ⊥
 AreRightAnswers w xs (step ∷ steps) (now ∷ said) = AllByRecursion (IsRightAnswer w xs step.after.core) now × AreRightAnswers w xs steps said
 
--- All that the calls of a core answered from its start on is right.
+-- All that is put out from the start on is right.
 abbrev pub AnswersAreRight : Type 0
-AnswersAreRight = (o : Options) (h : History) (step : ℕ → ℕ) (events : List Event) (said : List (List Out)) (core : Core) (stands : StandsAfter o at_start events said core) → IsStart o → IsToldBy o h step stands.next
-    → AreRightAnswers (world_of o h step stands.next.core.server) stands.next.core.exchanges stands.steps said
+AnswersAreRight = (o : Options) (h : History) (step : ℕ → ℕ) (events : List Event) (steps : List Step) (next : Situation) (said : List (List Out)) → IsStart o → Leads o at_start events steps next → ArePutOut steps said → IsToldBy o h step next
+    → AreRightAnswers (world_of o h step next.core.server) next.core.exchanges steps said

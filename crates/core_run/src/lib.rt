@@ -70,7 +70,7 @@ pub fn calls_lead()
     ensures { CallsLead }
 {}
 
-/// All that the calls of a core answered from its start on is right: each reply is the text of a lawful one, and each block has right rows.
+/// All that is put out from the start on is right: each reply is the text of a lawful one, and each block has right rows.
 pub fn answers_are_right()
     ensures { AnswersAreRight }
 {

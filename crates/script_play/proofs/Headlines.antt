@@ -12,6 +12,7 @@ use Rattle.core_law.specs.Laws as law
 use Rattle.sync_core.specs.Reading.{Reading}
 use Rattle.sync_core.specs.Run.{Situation, at_start, Turn, Goes, Stops, IsRead, turned}
 use Rattle.core_run.specs.Laws as runs
+use Rattle.core_run.specs.Calls as calls
 use Rattle.script.specs.declared.table.Declaration.{Declaration}
 use Rattle.script_play.specs.Tables.{catalog_of}
 use Rattle.script_play.specs.Script.{script_of}
@@ -62,8 +63,8 @@ took o s (e ∷ es) outs halt plays = took_by o s e es outs halt plays.0 (turned
 
 -- ---- the headline
 
-pub headline : runs.OutsAreLawful → runs.Headline → Headline
-headline lawful right words items outs ending p =
+pub headline : calls.AnswersAreRight → runs.Headline → Headline
+headline answers right words items outs ending p =
     let t = took p.options at_start (script_of items).events outs p.halt p.plays in
     let start = starts words (script_of items).tables p.options p.start in
     record {
@@ -73,7 +74,7 @@ headline lawful right words items outs ending p =
       ends = p.ends;
       took = t;
       right = λ h step told. record {
-        replies = lawful p.options h step (events_of t.taken) t.steps t.next start t.leads told;
-        blocks = right p.options h step (events_of t.taken) t.steps t.next start t.leads told;
+        answers = answers p.options h step (events_of t.taken) t.steps t.next t.said start t.leads t.put told;
+        shapes = (right p.options h step (events_of t.taken) t.steps t.next start t.leads told).shapes;
       };
     }

@@ -1,14 +1,15 @@
 -- What the play of a script owes a history of its tables: the headline over a script.
 use Rattle.std.specs.Prelude.{◌≡◌, ℕ, List, [], ◌∷◌, ◌++◌, length, map}
-use Rattle.std.specs.List.{AllByRecursion, flat_map}
+use Rattle.std.specs.List.{flat_map}
 use Rattle.shape_base.specs.declared.history.History.{History}
 use Rattle.core_events.specs.declared.event.Event.{Event}
 use Rattle.core_events.specs.declared.out.Out.{Out}
 use Rattle.core_law.specs.Situation.{Options, world_of}
+use Rattle.core_law.specs.Laws.{AreOfRequests}
 use Rattle.sync_core.specs.Run.{Situation, at_start}
-use Rattle.core_run.specs.Steps.{Step, Leads, told_in}
-use Rattle.core_run.specs.Laws.{IsToldBy, IsLawfulOut, AreRight}
-use Rattle.core_run.specs.Calls.{ArePutOut}
+use Rattle.core_run.specs.Steps.{Step, Leads}
+use Rattle.core_run.specs.Laws.{IsToldBy}
+use Rattle.core_run.specs.Calls.{ArePutOut, AreRightAnswers}
 use Rattle.script.specs.Records.{Item}
 use Rattle.script_play.specs.Script.{script_of}
 use Rattle.script_play.specs.Played.{IsStart, Halt, Through, Misfit, Full, Ending, ending_of, IsPlayed}
@@ -45,10 +46,10 @@ pub record Took (o : Options) (s : Situation) (events : List (ℕ × Event)) (ou
 
 -- ---- the headline
 
--- What was put out is right for a history: each reply is lawful, each block has the rows of the table after the client's reach that the shape of its identity selects, and the shape of each number is that of a request.
-pub record IsRight (o : Options) (h : History) (step : ℕ → ℕ) (steps : List Step) (next : Situation) : Type 0 where
-  pub replies : AllByRecursion (IsLawfulOut (world_of o h step next.core.server) next.core.exchanges) (told_in steps)
-  pub blocks : AreRight o h step steps next
+-- What was put out is right for a history: each reply is the text of a lawful one, each block has the rows of the table after the client's reach that the shape of its identity selects, and the shape of each number is that of a request.
+pub record IsRight (o : Options) (h : History) (step : ℕ → ℕ) (steps : List Step) (said : List (List Out)) (next : Situation) : Type 0 where
+  pub answers : AreRightAnswers (world_of o h step next.core.server) next.core.exchanges steps said
+  pub shapes : AreOfRequests o next.core.server
 
 -- The play of a script is right: of its events the first were taken, and what they put out is right for each history and each choice of steps by which they are told.
 pub record IsRightlyPlayed (words : List (List ℕ)) (items : List Item) (outs : List Out) (ending : Ending) : Type 0 where
@@ -57,7 +58,7 @@ pub record IsRightlyPlayed (words : List (List ℕ)) (items : List Item) (outs :
   pub halt : Halt
   pub ends : ending ≡ ending_of (script_of items).tail halt
   pub took : Took options at_start (script_of items).events outs halt
-  pub right : (h : History) (step : ℕ → ℕ) → IsToldBy options h step took.next → IsRight options h step took.steps took.next
+  pub right : (h : History) (step : ℕ → ℕ) → IsToldBy options h step took.next → IsRight options h step took.steps took.said took.next
 
 -- Each play of a script is right.
 abbrev pub Headline : Type 0
