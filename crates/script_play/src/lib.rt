@@ -3,11 +3,15 @@
 
 mod cause;
 pub mod laws;
+mod playing;
 mod settings;
 mod steps;
+mod stop;
 mod tables;
 
 pub use cause::{ScriptCause, cause_for};
+pub use playing::{Stage, play_item};
 pub use settings::{are_words, limits_of};
 pub use steps::{Step, step_of};
+pub use stop::Stop;
 pub use tables::{is_declared, options_of};
