@@ -5,3 +5,5 @@ pub mod Catalogs
 pub mod Turns
 pub mod Moves
 pub mod Headlines
+pub mod ItemLists
+pub mod Rounds

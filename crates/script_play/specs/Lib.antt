@@ -4,3 +4,4 @@ pub mod Tables
 pub mod Played
 pub mod Playing
 pub mod Headline
+pub mod Replaying

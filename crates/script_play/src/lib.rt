@@ -4,6 +4,7 @@
 mod cause;
 pub mod laws;
 mod playing;
+mod replaying;
 mod settings;
 mod steps;
 mod stop;
@@ -11,6 +12,7 @@ mod tables;
 
 pub use cause::{ScriptCause, cause_for};
 pub use playing::{Stage, play_item};
+pub use replaying::play;
 pub use settings::{are_words, limits_of};
 pub use steps::{Step, step_of};
 pub use stop::Stop;

@@ -1,8 +1,10 @@
 //! Why a run ended before its end record.
 ghost use Rattle.std.specs.Prelude.{◌≡◌};
 ghost use Rattle.script_play.specs.declared.stop.Stop.TheVariants.{OutOfMemory};
+ghost use Rattle.script_play.specs.Replaying.{stop_of_read};
 
 use crate::cause::ScriptCause;
+use script::ReadStop;
 use std::alloc::{AllocError, AllocFailed};
 
 /// Why a run ended before its end record.
@@ -47,5 +49,16 @@ impl From<shape_base::OutOfMemory> for Stop {
 
     fn from(_error: shape_base::OutOfMemory) -> Stop {
         Stop::OutOfMemory
+    }
+}
+
+impl From<ReadStop> for Stop {
+    ghost from_gives = { λ t e. e ≡ stop_of_read t };
+
+    fn from(stop: ReadStop) -> Stop {
+        match stop {
+            ReadStop::OutOfMemory => Stop::OutOfMemory,
+            ReadStop::ReadFault => Stop::ReadFault,
+        }
     }
 }

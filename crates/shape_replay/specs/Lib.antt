@@ -1,15 +1,2 @@
-pub mod Script
-pub mod Record
-pub mod Tabled
-pub mod Profile
-pub mod TableKept
-pub mod Stream
-pub mod Page
-pub mod Run
-pub mod Text
-pub mod Folding
-pub mod Stages
-pub mod Reading
-pub mod Playing
 pub mod Running
 pub mod Headline

@@ -1,17 +1,8 @@
-//! Replays scripts of a replication stream and its clients: `shape_replay replay` reads a script from standard input and writes its output.
+//! Replays scripts of a replication stream, requests and clients: `shape_replay replay` reads a script from standard input and writes what it puts out.
 #![tactic(auto)]
 
-mod client;
-mod exchange;
-mod output;
-mod playing;
-mod record;
+mod complaint;
 mod running;
-mod script;
-mod stages;
-mod stop;
-mod stream;
-mod table;
 
 use shape_base::{Input, Output};
 use std::io::BufReader;
