@@ -55,6 +55,12 @@ refuses another_word 2 usage "$script" Replay
 refuses an_empty_word 2 usage "$script" ''
 refuses a_word_with_a_blank 2 usage "$script" 'replay '
 refuses a_second_word 2 usage "$script" replay replay
+refuses an_option_without_a_value 2 usage "$script" replay --chunk
+refuses an_option_twice 2 usage "$script" replay --hold 1 --log 9 --hold 1
+refuses an_unknown_option 2 usage "$script" replay --chunks 4096
+refuses a_chunk_too_small 2 usage "$script" replay --chunk 4095
+refuses a_value_with_a_zero_before_it 2 usage "$script" replay --hold 01
+prints with_options "$wanted" "$replay" replay --hold 1 --chunk 4096 --shapes 1 < "$script"
 
 # Writes: a full device, a closed output, a pipe that nobody reads, a pipe that takes single bytes.
 "$replay" replay < "$script" > /dev/full 2> "$said"
@@ -106,7 +112,7 @@ PYTHON
 
 # Scripts that end too early, are wrong or too long: nothing is printed. A length that is only claimed takes no memory.
 refuses nothing_read 6 unfinished /dev/null replay
-for kind in M T N G W S E; do
+for kind in T B O M F Q D G X N S R W U K E; do
     printf '%s\377\377\377\377' "$kind" > "$folder/claim"
     in_memory 200000 "$replay" replay < "$folder/claim" > "$answer" 2> "$said"
     got=$?
@@ -127,8 +133,8 @@ printf '\0' >> "$folder/long"
 refuses one_byte_too_long 7 too_long "$folder/long" replay
 printf 'M\0\0\0\006T\377\377\377\377\0' > "$folder/claim"
 in_memory 200000 "$replay" replay < "$folder/claim" > "$answer" 2> "$said"
-ended truncate_of_4294967295 5 'bad_script not_built' $?
-[ ! -s "$answer" ] || fails "truncate_of_4294967295: it prints $(head -c 200 "$answer")"
+ended truncate_of_4294967295 6 unfinished $?
+echo "stream refused bad_message 0" | cmp -s "$answer" - || fails "truncate_of_4294967295: it prints $(head -c 200 "$answer")"
 echo "wrong 0" > "$folder/wrong"
 in_memory 200000 "$stream" decode < "$folder/claim" > "$answer"
 [ $? = 1 ] || fails "truncate_of_4294967295: another status than 1"
