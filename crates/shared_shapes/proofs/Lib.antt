@@ -2,3 +2,4 @@ pub mod Places
 pub mod Boards
 pub mod Holding
 pub mod Seating
+pub mod Snapping

@@ -3,6 +3,7 @@ pub mod Changes
 pub mod Board
 pub mod Passes
 pub mod Seats
+pub mod Changing
 pub mod Rights
 pub mod Lends
 pub mod Calls

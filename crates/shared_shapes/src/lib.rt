@@ -12,6 +12,7 @@ mod passes;
 mod registry_data;
 mod rights;
 mod seat;
+mod seats;
 mod shared;
 mod slot;
 mod started;

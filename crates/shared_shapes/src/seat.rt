@@ -1,12 +1,14 @@
 //! What one caller has of one shape.
 ghost use Rattle.std.specs.Prelude.{◌≡◌, ◌∷◌, [], List, Option, None, Some, IsSome, IfOk, IfErr, OnOk, OnErr, map};
 ghost use Rattle.std.specs.Arc.{arc_value};
-ghost use Rattle.shape_json.specs.ShapeHistory.{Snapped, Dropped};
+ghost use Rattle.shape_json.specs.ShapeHistory.{Dropped, snapshot_in};
+ghost use Rattle.shape_json.specs.ShapeHistory as history;
 ghost use Rattle.shape_snapshot.specs.Taken.{HasTaken};
 ghost use Rattle.shape_state.specs.Reading.{reader_of};
 ghost use Rattle.shape_state.specs.Answers.{IsReadyError};
 ghost use Rattle.shape_lock.specs.Starts.{drop_in};
 ghost use Rattle.shape_lock.specs.Passes.{GoesOn, Owes, Suits, made_if, snapshot_of};
+ghost use Rattle.shared_shapes.specs.Changing.{Snaps, Refuses};
 
 use crate::lent::Lent;
 use crate::rights::Rights;
@@ -19,6 +21,14 @@ use shape_state::ReadyError;
 use std::marker::Model;
 use std::snapshot::Snapshot;
 use std::sync::{Arc, Wait};
+
+/// A shape that got its snapshot: why the same step dropped it, if it did; the right to make its number ready; and what its pass has seen.
+#[derive(Drop)]
+pub(crate) struct Snapped<T: RowTest> {
+    pub(crate) gone: Option<Cause>,
+    pub(crate) ready: Pen<bool>,
+    pub(crate) note: Note<Locked<T>>,
+}
 
 /// A pass of a shape, with its lock. The rights are with the caller that registered the shape, until it gave the snapshot.
 #[derive(Drop)]
@@ -102,7 +112,7 @@ impl<T: RowTest> Seat<T> {
         requires right { IsSome self.old.right }
         requires suits { Suits self.old.pass.fixed snap.emitter.test snap.kept.log.least }
         requires taken { HasTaken (reader_of (T.knows snap.emitter.test) (T.unread snap.emitter.test)) snap.limits snap.kept (map (λ r. r.value) rows.now.items) }
-        ensures on { OnOk result (GoesOn T.knows T.unread self.old.pass self.new.pass (Snapped (snapshot_of (T.knows snap.emitter.test) snap.vis (map (λ r. r.value) rows.now.items)) ∷ [])) }
+        ensures on { OnOk result (GoesOn T.knows T.unread self.old.pass self.new.pass (history.Snapped (snapshot_of (T.knows snap.emitter.test) snap.vis (map (λ r. r.value) rows.now.items)) ∷ [])) }
         ensures left { IfOk result (λ r. r.0 ≡ drop_in T.knows T.unread self.new.pass.fixed self.new.pass.seen) }
         ensures right { IfOk result (λ r. (self.old.right ≡ Some r.1.of) × (r.1.list ≡ []) × (self.new.right ≡ None)) }
         ensures same { OnErr result (GoesOn T.knows T.unread self.old.pass self.new.pass [] × (self.new.right ≡ self.old.right)) }
@@ -125,6 +135,30 @@ impl<T: RowTest> Seat<T> {
                 self.rights = Some(rights);
                 Err(e)
             }
+        }
+    }
+
+    /// Gives the shape its snapshot, and notes what the pass has seen then.
+    pub(crate) fn snap<R: Wait>(
+        &mut self,
+        rt: &R,
+        snap: Snap<T>,
+        rows: &Vec<Snapshot<Row>>,
+    ) -> Result<Snapped<T>, ReadyError>
+        requires right { IsSome self.old.right }
+        requires suits { Suits self.old.pass.fixed snap.emitter.test snap.kept.log.least }
+        requires taken { HasTaken (reader_of (T.knows snap.emitter.test) (T.unread snap.emitter.test)) snap.limits snap.kept (map (λ r. r.value) rows.now.items) }
+        ensures snaps { IfOk result (λ s. Snaps T.knows T.unread (snapshot_of (T.knows snap.emitter.test) snap.vis (map (λ r. r.value) rows.now.items)) s.gone self.old self.new) }
+        ensures ready { IfOk result (λ s. (self.old.right ≡ Some s.ready.of) × (s.ready.list ≡ [])) }
+        ensures note { IfOk result (λ s. (s.note.lock ≡ self.old.pass.lock) × IsSome (snapshot_in s.note.seen)) }
+        ensures refused { IfErr result (λ e. Refuses T.knows T.unread e self.old self.new) }
+    {
+        match self.finish(rt, snap, rows) {
+            Ok((gone, ready)) => {
+                let note = self.note();
+                Ok(Snapped { gone, ready, note })
+            }
+            Err(e) => Err(e),
         }
     }
 }

@@ -1,25 +1,35 @@
 //! The registry's lock, and the calls on it.
-ghost use Rattle.std.specs.Prelude.{◌≡◌, ◌∷◌, [], IfOk, IfErr, OnErr};
+ghost use Rattle.std.specs.Prelude.{◌≡◌, ◌∷◌, [], IsSome, IsSomeAnd, IfOk, IfErr, OnErr, map};
 ghost use Rattle.std.specs.FinMap as fin;
 ghost use Rattle.shape_base.specs.declared.registry_event.RegistryEvent.TheVariants as events;
+ghost use Rattle.shape_snapshot.specs.Taken.{HasTaken};
+ghost use Rattle.shape_state.specs.Reading.{reader_of};
+ghost use Rattle.shape_lock.specs.Passes.{Suits, snapshot_of};
 ghost use Rattle.shape_registry.specs.ByHistory.{standing_after};
 ghost use Rattle.shared_shapes.specs.Events.{plain, events_of};
 ghost use Rattle.shared_shapes.specs.Passes.{StepsOn, IsServed};
 ghost use Rattle.shared_shapes.specs.Seats.{AreSeats};
 ghost use Rattle.shared_shapes.specs.Calls.{Registers, IsUnstarted, IsStartedWith};
+ghost use Rattle.shared_shapes.specs.Changing.{Finishes, IsUnfinished, IsDropped};
 
 use crate::birth::Birth;
 use crate::board::Board;
 use crate::lent::Lent;
 use crate::numbered::Numbered;
 use crate::passes::RegPass;
+use crate::seats::{drop_at, snap_at};
 use crate::started::{StartError, Started};
 use crate::steps;
 use front_lock::FrontLock;
 use lock_events::Pen;
-use shape_base::{Limits, OutOfMemory, RowTest, ServedTables, TableDef, TableDefs, Text};
+use shape_base::{
+    Cause, Limits, OutOfMemory, Row, RowTest, ServedTables, TableDef, TableDefs, Text,
+};
 use shape_registry::Standing;
+use shape_snapshot::Snap;
+use shape_state::ReadyError;
 use std::alloc::Global;
+use std::snapshot::Snapshot;
 use std::sync::Wait;
 
 /// A registry that threads share, with the shapes that it has. Each call is given a pass of it; contracts see which lock it is and the limits.
@@ -104,5 +114,46 @@ impl<T: RowTest> Shared<T> {
             return Err(StartError::OutOfMemory);
         };
         steps::register(rt, alloc, &self.lock, &mut pass.reg, &mut pass.seats, birth)
+    }
+
+    /// Gives the shape with that number its snapshot, which its caller alone may do that registered it. Afterwards the number is ready, or is live no more.
+    ///
+    /// Ok has the cause where a commit that was buffered drops the shape in the same step. `Gone` comes exactly where it was dropped before.
+    pub fn finish<R: Wait>(
+        &self,
+        rt: &R,
+        pass: &mut RegPass<T>,
+        number: u64,
+        snap: Snap<T>,
+        rows: &Vec<Snapshot<Row>>,
+    ) -> Result<Option<Cause>, ReadyError>
+        requires lock { pass.old.reg.lock ≡ self.now.lock }
+        requires known { AreSeats pass.old.reg.seen pass.old.seats }
+        requires right { IsSomeAnd (fin.get pass.old.seats number) (λ s. IsSome s.right × Suits s.pass.fixed snap.emitter.test snap.kept.log.least) }
+        requires taken { HasTaken (reader_of (T.knows snap.emitter.test) (T.unread snap.emitter.test)) snap.limits snap.kept (map (λ r. r.value) rows.now.items) }
+        ensures finished { IfOk result (Finishes T.knows T.unread pass.old.reg pass.new.reg pass.old.seats pass.new.seats number (snapshot_of (T.knows snap.emitter.test) snap.vis (map (λ r. r.value) rows.now.items))) }
+        ensures refused { IfErr result (IsUnfinished T.knows T.unread pass.old.reg pass.new.reg pass.old.seats pass.new.seats number) }
+        ensures known { AreSeats pass.new.reg.seen pass.new.seats }
+    {
+        match snap_at(rt, &mut pass.seats, number, snap, rows) {
+            Ok(snapped) => {
+                let gone = snapped.gone;
+                steps::settle(rt, &self.lock, &mut pass.reg, number, snapped);
+                Ok(gone)
+            }
+            Err(e) => Err(e),
+        }
+    }
+
+    /// Drops the shape with that number, where it is not dropped before, and removes the number, where it is still live.
+    pub fn drop_shape<R: Wait>(&self, rt: &R, pass: &mut RegPass<T>, number: u64, cause: Cause)
+        requires lock { pass.old.reg.lock ≡ self.now.lock }
+        requires known { AreSeats pass.old.reg.seen pass.old.seats }
+        requires seat { IsSome (fin.get pass.old.seats number) }
+        ensures dropped { IsDropped T.knows T.unread pass.old.reg pass.new.reg pass.old.seats pass.new.seats number cause }
+        ensures known { AreSeats pass.new.reg.seen pass.new.seats }
+    {
+        drop_at(rt, &mut pass.seats, number, cause);
+        steps::remove(rt, &self.lock, &mut pass.reg, number, cause);
     }
 }
