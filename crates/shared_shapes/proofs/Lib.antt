@@ -2,4 +2,5 @@ pub mod Places
 pub mod Boards
 pub mod Holding
 pub mod Seating
+pub mod Joining
 pub mod Snapping

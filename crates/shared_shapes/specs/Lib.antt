@@ -1,6 +1,7 @@
 pub mod Events
 pub mod Changes
 pub mod Board
+pub mod Sharing
 pub mod Passes
 pub mod Seats
 pub mod Changing

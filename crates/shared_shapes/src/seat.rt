@@ -91,14 +91,7 @@ impl<T: RowTest> Seat<T> {
         ensures kept { self.new ≡ self.old }
         ensures note { (result.lock ≡ self.old.pass.lock) × (result.seen ≡ self.old.pass.seen) }
     {
-        let Some(mut pass) = self.pass.pass.take() else {
-            unreachable!()
-        };
-        let Ok(note) = self.lock.note(&mut pass) else {
-            unreachable!()
-        };
-        self.pass.pass = Some(pass);
-        note
+        self.pass.note(&self.lock)
     }
 
     /// Gives the shape its snapshot, with the right that the seat has. Ok has the cause where a commit that was buffered drops the shape in the same step, and the right to make

@@ -1,12 +1,15 @@
 //! The registry's lock, and the calls on it.
 ghost use Rattle.std.specs.Prelude.{◌≡◌, ◌∷◌, [], IsSome, IsSomeAnd, IfOk, IfErr, OnErr, map};
 ghost use Rattle.std.specs.FinMap as fin;
+ghost use mathlib.Core.List.{IsPrefix};
+ghost use Rattle.front_lock.specs.Passes.{IsSameLock};
 ghost use Rattle.shape_base.specs.declared.registry_event.RegistryEvent.TheVariants as events;
 ghost use Rattle.shape_snapshot.specs.Taken.{HasTaken};
 ghost use Rattle.shape_state.specs.Reading.{reader_of};
 ghost use Rattle.shape_lock.specs.Passes.{Suits, snapshot_of};
 ghost use Rattle.shape_registry.specs.ByHistory.{standing_after};
 ghost use Rattle.shared_shapes.specs.Events.{plain, events_of};
+ghost use Rattle.shared_shapes.specs.Sharing.{Halves};
 ghost use Rattle.shared_shapes.specs.Passes.{StepsOn, IsServed};
 ghost use Rattle.shared_shapes.specs.Seats.{AreSeats};
 ghost use Rattle.shared_shapes.specs.Calls.{Registers, IsUnstarted, IsStartedWith};
@@ -20,7 +23,7 @@ use crate::passes::RegPass;
 use crate::seats::{drop_at, snap_at};
 use crate::started::{StartError, Started};
 use crate::steps;
-use front_lock::FrontLock;
+use front_lock::{FrontLock, Note};
 use lock_events::Pen;
 use shape_base::{
     Cause, Limits, OutOfMemory, Row, RowTest, ServedTables, TableDef, TableDefs, Text,
@@ -89,6 +92,38 @@ impl<T: RowTest> Shared<T> {
         ensures known { AreSeats pass.new.reg.seen pass.new.seats }
     {
         steps::redefine(rt, &self.lock, &mut pass.reg, definition);
+    }
+
+    /// A second pass, for another thread. It has seen as much of the registry, and has no shapes.
+    pub fn split(&self, alloc: Global, pass: &mut RegPass<T>) -> RegPass<T>
+        requires { pass.old.reg.lock ≡ self.now.lock }
+        ensures first { Halves pass.old.reg pass.new.reg pass.old.reg.own × (pass.new.seats ≡ pass.old.seats) }
+        ensures second { Halves pass.old.reg result.reg [] × (result.seats ≡ fin.empty) }
+    {
+        let reg = pass.reg.split(&self.lock);
+        let seats = Numbered::new(alloc);
+        RegPass { reg, seats }
+    }
+
+    /// What a pass has seen of the registry, for another to learn.
+    pub fn note(&self, pass: &mut RegPass<T>) -> Note<Board<T>>
+        requires { pass.old.reg.lock ≡ self.now.lock }
+        ensures kept { (pass.new.reg ≡ pass.old.reg) × (pass.new.seats ≡ pass.old.seats) }
+        ensures note { IsSameLock pass.old.reg result × (result.seen ≡ pass.old.reg.seen) }
+    {
+        pass.reg.note(&self.lock)
+    }
+
+    /// The pass has then seen of the registry at least what it and the noting pass had.
+    pub fn learn(&self, pass: &mut RegPass<T>, note: Note<Board<T>>)
+        requires lock { (pass.old.reg.lock ≡ self.now.lock) × (note.lock ≡ self.now.lock) }
+        requires known { AreSeats pass.old.reg.seen pass.old.seats }
+        ensures on { StepsOn pass.old.reg pass.new.reg [] }
+        ensures told { IsPrefix note.seen pass.new.reg.seen }
+        ensures seats { pass.new.seats ≡ pass.old.seats }
+        ensures known { AreSeats pass.new.reg.seen pass.new.seats }
+    {
+        pass.reg.learn(&self.lock, note);
     }
 
     /// Registers a shape of this test, which waits for its snapshot. The caller alone may give it that.

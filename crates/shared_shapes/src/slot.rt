@@ -63,10 +63,7 @@ impl<T: RowTest> Slot<T> {
         ensures seen { IsPrefix note.seen self.new.pass.seen }
         ensures ready { self.new.ready ≡ self.old.ready }
     {
-        let Some(pass) = self.pass.pass.take() else {
-            unreachable!()
-        };
-        self.pass.pass = Some(self.lock.learn(pass, note));
+        self.pass.learn(&self.lock, note);
     }
 
     /// The list of its readiness gets its mark, and had none before.
