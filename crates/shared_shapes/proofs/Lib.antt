@@ -3,4 +3,5 @@ pub mod Boards
 pub mod Holding
 pub mod Seating
 pub mod Joining
+pub mod Copying
 pub mod Snapping

@@ -17,6 +17,7 @@ use Rattle.shared_shapes.specs.Events.{Noted, place_in, place_of}
 use Rattle.front_lock.specs.Passes.{IsSameLock}
 use Rattle.atomic_table.specs.Seated.{TableId}
 use Rattle.shared_shapes.specs.Seats.{Seated, IsSeat, AreSeats, AtSeat}
+use Rattle.shared_shapes.specs.Sharing.{IsSame, IsCopy, AreBoth, AreEach}
 use Rattle.shared_shapes.proofs.Places.{place_on}
 use Rattle.shared_shapes.proofs.Boards.{put_all}
 
@@ -81,3 +82,20 @@ module _ {A : Type 0} where
   seats_changed es gs seats seats' n C c all pre same right = let all' = seats_on es gs seats pre all in let h = seat_here gs seats n c.before all' (sym c.was) in
       subst (λ m. AreSeats gs m) (sym c.now) (seats_put gs seats n c.after all'
       (record { place = h.place; at = h.at; lock = same.0 ∙ h.lock; about = same.1 ∙ h.about; right = right h.place.ready h.right }))
+
+  -- ---- copies
+
+  seat_as : (es : List (Noted A)) (n : ℕ) (s t : Seated A) → IsSameLock s.pass t.pass → ((list : TableId) → IfSome s.right (λ l. l ≡ list) → IfSome t.right (λ l. l ≡ list)) → IsSeat es n s → IsSeat es n t
+  seat_as es n s t same right h = record { place = h.place; at = h.at; lock = same.0 ∙ h.lock; about = same.1 ∙ h.about; right = right h.place.ready h.right }
+
+  each_seat : (es : List (Noted A)) (n : ℕ) (R : Seated A → Seated A → Type 0) (o q : Option (Seated A)) → ((s t : Seated A) → R s t → IsSeat es n s → IsSeat es n t) → AreBoth R o q → IfSome o (IsSeat es n) → IfSome q (IsSeat es n)
+  each_seat es n R None None f a h = tt
+  each_seat es n R None (Some t) f a h = absurd a
+  each_seat es n R (Some s) None f a h = tt
+  each_seat es n R (Some s) (Some t) f a h = f s t a h
+
+  pub seats_same : (es : List (Noted A)) (seats seats' : FinMap nat_cmp (Seated A)) → AreEach IsSame seats seats' → AreSeats es seats → AreSeats es seats'
+  seats_same es seats seats' each all = λ n. each_seat es n IsSame (fin.get seats n) (fin.get seats' n) (λ s t r. seat_as es n s t r.lock (same_right s t r.right)) (each n) (all n)
+
+  pub seats_copied : (es : List (Noted A)) (seats seats' : FinMap nat_cmp (Seated A)) → AreEach IsCopy seats seats' → AreSeats es seats → AreSeats es seats'
+  seats_copied es seats seats' each all = λ n. each_seat es n IsCopy (fin.get seats n) (fin.get seats' n) (λ s t r. seat_as es n s t r.lock (no_right s t r.right)) (each n) (all n)

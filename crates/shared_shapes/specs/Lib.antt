@@ -1,9 +1,9 @@
 pub mod Events
 pub mod Changes
 pub mod Board
-pub mod Sharing
 pub mod Passes
 pub mod Seats
+pub mod Sharing
 pub mod Changing
 pub mod Rights
 pub mod Lends

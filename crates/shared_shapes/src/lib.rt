@@ -6,6 +6,7 @@
 
 mod birth;
 mod board;
+mod copies;
 mod lent;
 mod numbered;
 mod passes;
@@ -20,7 +21,7 @@ mod step;
 mod steps;
 
 pub use board::Board;
-pub use passes::RegPass;
+pub use passes::{RegNote, RegPass};
 pub use registry_data::RegistryData;
 pub use shared::Shared;
 pub use started::{StartError, Started};

@@ -1,5 +1,7 @@
 //! A map by number.
-ghost use Rattle.std.specs.Prelude.{◌≡◌, ℕ, IfOk, IfErr, OnOk, OnErr, None};
+ghost use Rattle.std.specs.Prelude.{◌≡◌, ℕ, IfOk, IfErr, OnOk, OnErr, None, is_some};
+ghost use Rattle.std.specs.List.{list_any};
+ghost use Rattle.std.specs.Ordering.{nat_cmp, eq_by_cmp};
 ghost use Rattle.std.specs.Option.{option_copied_mut};
 ghost use Rattle.std.specs.FinMap as fin;
 
@@ -38,6 +40,14 @@ impl<V> Numbered<V> {
         Numbered {
             values: BTreeMap::new(alloc),
         }
+    }
+
+    /// The numbers that have a value.
+    pub(crate) fn numbers(&self, alloc: Global) -> Result<Vec<u64>, OutOfMemory>
+        ensures { IfOk result (λ v. (n : ℕ) → is_some (fin.get self.now n) ≡ list_any (eq_by_cmp nat_cmp n) v.items) }
+    {
+        let numbers: Vec<u64> = self.values.keys().copied().collect(alloc)?;
+        Ok(numbers)
     }
 
     /// The value of a number, to write to.

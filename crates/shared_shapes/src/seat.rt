@@ -8,13 +8,14 @@ ghost use Rattle.shape_state.specs.Reading.{reader_of};
 ghost use Rattle.shape_state.specs.Answers.{IsReadyError};
 ghost use Rattle.shape_lock.specs.Starts.{drop_in};
 ghost use Rattle.shape_lock.specs.Passes.{GoesOn, Owes, Suits, made_if, snapshot_of};
+ghost use Rattle.shared_shapes.specs.Sharing.{IsSame, IsCopy};
 ghost use Rattle.shared_shapes.specs.Changing.{Snaps, Refuses};
 
 use crate::lent::Lent;
 use crate::rights::Rights;
 use front_lock::{FrontLock, Note};
 use lock_events::Pen;
-use shape_base::{Cause, Row, RowTest};
+use shape_base::{Cause, OutOfMemory, Row, RowTest};
 use shape_lock::{Locked, drop_shape, finish};
 use shape_snapshot::Snap;
 use shape_state::ReadyError;
@@ -92,6 +93,20 @@ impl<T: RowTest> Seat<T> {
         ensures note { (result.lock ≡ self.old.pass.lock) × (result.seen ≡ self.old.pass.seen) }
     {
         self.pass.note(&self.lock)
+    }
+
+    /// A seat of the same shape that has seen as much, with no events of its own and no right.
+    pub(crate) fn copy(&mut self) -> Result<Seat<T>, OutOfMemory>
+        ensures same { IsSame self.old self.new }
+        ensures copy { IfOk result (IsCopy self.old) }
+    {
+        let lock = Arc::try_clone(&self.lock)?;
+        let pass = self.pass.split(&self.lock);
+        Ok(Seat {
+            lock,
+            pass,
+            rights: None,
+        })
     }
 
     /// Gives the shape its snapshot, with the right that the seat has. Ok has the cause where a commit that was buffered drops the shape in the same step, and the right to make

@@ -9,7 +9,7 @@ ghost use Rattle.shape_state.specs.Reading.{reader_of};
 ghost use Rattle.shape_lock.specs.Passes.{Suits, snapshot_of};
 ghost use Rattle.shape_registry.specs.ByHistory.{standing_after};
 ghost use Rattle.shared_shapes.specs.Events.{plain, events_of};
-ghost use Rattle.shared_shapes.specs.Sharing.{Halves};
+ghost use Rattle.shared_shapes.specs.Sharing.{Halves, IsSame, IsCopy, AreEach};
 ghost use Rattle.shared_shapes.specs.Passes.{StepsOn, IsServed};
 ghost use Rattle.shared_shapes.specs.Seats.{AreSeats};
 ghost use Rattle.shared_shapes.specs.Calls.{Registers, IsUnstarted, IsStartedWith};
@@ -17,13 +17,14 @@ ghost use Rattle.shared_shapes.specs.Changing.{Finishes, IsUnfinished, IsDropped
 
 use crate::birth::Birth;
 use crate::board::Board;
+use crate::copies::copy_all;
 use crate::lent::Lent;
 use crate::numbered::Numbered;
-use crate::passes::RegPass;
+use crate::passes::{RegNote, RegPass};
 use crate::seats::{drop_at, snap_at};
 use crate::started::{StartError, Started};
 use crate::steps;
-use front_lock::{FrontLock, Note};
+use front_lock::FrontLock;
 use lock_events::Pen;
 use shape_base::{
     Cause, Limits, OutOfMemory, Row, RowTest, ServedTables, TableDef, TableDefs, Text,
@@ -94,36 +95,45 @@ impl<T: RowTest> Shared<T> {
         steps::redefine(rt, &self.lock, &mut pass.reg, definition);
     }
 
-    /// A second pass, for another thread. It has seen as much of the registry, and has no shapes.
-    pub fn split(&self, alloc: Global, pass: &mut RegPass<T>) -> RegPass<T>
-        requires { pass.old.reg.lock ≡ self.now.lock }
-        ensures first { Halves pass.old.reg pass.new.reg pass.old.reg.own × (pass.new.seats ≡ pass.old.seats) }
-        ensures second { Halves pass.old.reg result.reg [] × (result.seats ≡ fin.empty) }
+    /// A second pass, for another thread. It has seen as much, of the registry and of each shape, and has no events of its own and no rights.
+    pub fn split(&self, alloc: Global, pass: &mut RegPass<T>) -> Result<RegPass<T>, OutOfMemory>
+        requires lock { pass.old.reg.lock ≡ self.now.lock }
+        requires known { AreSeats pass.old.reg.seen pass.old.seats }
+        ensures first { IfOk result (λ _. Halves pass.old.reg pass.new.reg pass.old.reg.own) }
+        ensures second { IfOk result (λ p. Halves pass.old.reg p.reg [] × AreEach IsCopy pass.old.seats p.seats) }
+        ensures refused { OnErr result (pass.new.reg ≡ pass.old.reg) }
+        ensures same { AreEach IsSame pass.old.seats pass.new.seats }
+        ensures known { AreSeats pass.new.reg.seen pass.new.seats × IfOk result (λ p. AreSeats p.reg.seen p.seats) }
     {
+        let seats = copy_all(alloc, &mut pass.seats)?;
         let reg = pass.reg.split(&self.lock);
-        let seats = Numbered::new(alloc);
-        RegPass { reg, seats }
+        Ok(RegPass { reg, seats })
     }
 
-    /// What a pass has seen of the registry, for another to learn.
-    pub fn note(&self, pass: &mut RegPass<T>) -> Note<Board<T>>
-        requires { pass.old.reg.lock ≡ self.now.lock }
-        ensures kept { (pass.new.reg ≡ pass.old.reg) × (pass.new.seats ≡ pass.old.seats) }
-        ensures note { IsSameLock pass.old.reg result × (result.seen ≡ pass.old.reg.seen) }
+    /// What a pass has seen, of the registry and of each shape, for another to learn.
+    pub fn note(&self, alloc: Global, pass: &mut RegPass<T>) -> Result<RegNote<T>, OutOfMemory>
+        requires lock { pass.old.reg.lock ≡ self.now.lock }
+        requires known { AreSeats pass.old.reg.seen pass.old.seats }
+        ensures kept { (pass.new.reg ≡ pass.old.reg) × AreEach IsSame pass.old.seats pass.new.seats }
+        ensures note { IfOk result (λ n. IsSameLock pass.old.reg n.reg × (n.reg.seen ≡ pass.old.reg.seen) × AreEach IsCopy pass.old.seats n.seats) }
+        ensures known { AreSeats pass.new.reg.seen pass.new.seats × IfOk result (λ n. AreSeats n.reg.seen n.seats) }
     {
-        pass.reg.note(&self.lock)
+        let seats = copy_all(alloc, &mut pass.seats)?;
+        let reg = pass.reg.note(&self.lock);
+        Ok(RegNote { reg, seats })
     }
 
     /// The pass has then seen of the registry at least what it and the noting pass had.
-    pub fn learn(&self, pass: &mut RegPass<T>, note: Note<Board<T>>)
-        requires lock { (pass.old.reg.lock ≡ self.now.lock) × (note.lock ≡ self.now.lock) }
+    pub fn learn(&self, pass: &mut RegPass<T>, note: RegNote<T>)
+        requires lock { (pass.old.reg.lock ≡ self.now.lock) × (note.reg.lock ≡ self.now.lock) }
         requires known { AreSeats pass.old.reg.seen pass.old.seats }
         ensures on { StepsOn pass.old.reg pass.new.reg [] }
-        ensures told { IsPrefix note.seen pass.new.reg.seen }
+        ensures told { IsPrefix note.reg.seen pass.new.reg.seen }
         ensures seats { pass.new.seats ≡ pass.old.seats }
         ensures known { AreSeats pass.new.reg.seen pass.new.seats }
     {
-        pass.reg.learn(&self.lock, note);
+        let RegNote { reg, seats: _ } = note;
+        pass.reg.learn(&self.lock, reg);
     }
 
     /// Registers a shape of this test, which waits for its snapshot. The caller alone may give it that.
