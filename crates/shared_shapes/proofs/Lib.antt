@@ -5,3 +5,5 @@ pub mod Seating
 pub mod Joining
 pub mod Copying
 pub mod Snapping
+pub mod Found
+pub mod Visiting

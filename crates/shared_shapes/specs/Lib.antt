@@ -9,3 +9,4 @@ pub mod Rights
 pub mod Lends
 pub mod Calls
 pub mod Reasons
+pub mod Asking

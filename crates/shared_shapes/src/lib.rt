@@ -4,6 +4,8 @@
 //! histories that the pass has seen then.
 #![tactic(auto)]
 
+mod ask;
+mod asked;
 mod birth;
 mod board;
 mod copies;
@@ -19,7 +21,9 @@ mod slot;
 mod started;
 mod step;
 mod steps;
+mod visits;
 
+pub use asked::Asked;
 pub use board::Board;
 pub use passes::{RegNote, RegPass};
 pub use registry_data::RegistryData;

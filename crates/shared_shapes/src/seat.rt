@@ -6,19 +6,21 @@ ghost use Rattle.shape_json.specs.ShapeHistory as history;
 ghost use Rattle.shape_snapshot.specs.Taken.{HasTaken};
 ghost use Rattle.shape_state.specs.Reading.{reader_of};
 ghost use Rattle.shape_state.specs.Answers.{IsReadyError};
-ghost use Rattle.shape_lock.specs.Starts.{drop_in};
+ghost use mathlib.Core.List.{IsPrefix};
+ghost use Rattle.shape_lock.specs.Starts.{drop_in, IsLegalIn, IsPagedIn};
 ghost use Rattle.shape_lock.specs.Passes.{GoesOn, Owes, Suits, made_if, snapshot_of};
 ghost use Rattle.shared_shapes.specs.Sharing.{IsSame, IsCopy};
 ghost use Rattle.shared_shapes.specs.Changing.{Snaps, Refuses};
+ghost use Rattle.shared_shapes.specs.Asking.{Follows};
 
 use crate::lent::Lent;
 use crate::rights::Rights;
 use front_lock::{FrontLock, Note};
 use lock_events::Pen;
-use shape_base::{Cause, OutOfMemory, Row, RowTest};
-use shape_lock::{Locked, drop_shape, finish};
+use shape_base::{Cause, Offset, OutOfMemory, Row, RowTest};
+use shape_lock::{Locked, drop_shape, finish, look};
 use shape_snapshot::Snap;
-use shape_state::ReadyError;
+use shape_state::{Paged, ReadyError};
 use std::marker::Model;
 use std::snapshot::Snapshot;
 use std::sync::{Arc, Wait};
@@ -70,6 +72,56 @@ impl<T: RowTest> Seat<T> {
             lock,
             pass,
             rights: Some(Rights { seal, ready }),
+        }
+    }
+
+    /// The seat of a caller that asks.
+    pub(crate) fn visitor(lock: Arc<FrontLock<Locked<T>>>, pass: Lent<Locked<T>>) -> Seat<T>
+        requires { pass.lock ≡ arc_value lock }
+        ensures { result ≡ record { pass = pass; right = None } }
+    {
+        Seat {
+            lock,
+            pass,
+            rights: None,
+        }
+    }
+
+    /// Its pass has then seen what that of a visitor has.
+    pub(crate) fn join(&mut self, visitor: Seat<T>)
+        requires lock { visitor.pass.lock ≡ self.old.pass.lock }
+        requires none { visitor.pass.own ≡ [] }
+        ensures on { Follows self.old self.new }
+        ensures seen { IsPrefix visitor.pass.seen self.new.pass.seen }
+    {
+        let Seat {
+            lock: _,
+            pass,
+            rights: _,
+        } = visitor;
+        self.pass.join(&self.lock, pass);
+    }
+
+    /// What its shape answers to a request for a page.
+    pub(crate) fn look<R: Wait>(
+        &mut self,
+        rt: &R,
+        offset: Offset,
+        live: bool,
+        late: bool,
+    ) -> Result<Paged, OutOfMemory>
+        ensures on { Follows self.old self.new }
+        ensures legal { IsLegalIn T.knows T.unread self.new.pass.fixed self.new.pass.seen }
+        ensures paged { IfOk result (IsPagedIn T.knows T.unread self.new.pass.fixed self.new.pass.seen offset live late) }
+    {
+        let Some(pass) = self.pass.pass.take() else {
+            unreachable!()
+        };
+        let (pass, looked) = look(rt, &self.lock, pass, offset, live, late);
+        self.pass.pass = Some(pass);
+        match looked {
+            Ok(looked) => Ok(looked.paged),
+            Err(e) => Err(e),
         }
     }
 

@@ -10,11 +10,14 @@ ghost use Rattle.shape_lock.specs.Passes.{Suits, snapshot_of};
 ghost use Rattle.shape_registry.specs.ByHistory.{standing_after};
 ghost use Rattle.shared_shapes.specs.Events.{plain, events_of};
 ghost use Rattle.shared_shapes.specs.Sharing.{Halves, IsSame, IsCopy, AreEach};
-ghost use Rattle.shared_shapes.specs.Passes.{StepsOn, IsServed};
+ghost use Rattle.shared_shapes.specs.Passes.{StepsOn, IsServed, IsLegalFor};
 ghost use Rattle.shared_shapes.specs.Seats.{AreSeats};
 ghost use Rattle.shared_shapes.specs.Calls.{Registers, IsUnstarted, IsStartedWith};
 ghost use Rattle.shared_shapes.specs.Changing.{Finishes, IsUnfinished, IsDropped};
+ghost use Rattle.shared_shapes.specs.Asking.{Answers, AsksOn};
 
+use crate::ask::answer;
+use crate::asked::Asked;
 use crate::birth::Birth;
 use crate::board::Board;
 use crate::copies::copy_all;
@@ -27,7 +30,7 @@ use crate::steps;
 use front_lock::FrontLock;
 use lock_events::Pen;
 use shape_base::{
-    Cause, Limits, OutOfMemory, Row, RowTest, ServedTables, TableDef, TableDefs, Text,
+    Ask, Cause, Limits, OutOfMemory, Row, RowTest, ServedTables, TableDef, TableDefs, Text,
 };
 use shape_registry::Standing;
 use shape_snapshot::Snap;
@@ -200,5 +203,25 @@ impl<T: RowTest> Shared<T> {
     {
         drop_at(rt, &mut pass.seats, number, cause);
         steps::remove(rt, &self.lock, &mut pass.reg, number, cause);
+    }
+
+    /// Answers a request by the histories of the registry and of its shape that the pass has seen after the call. `late` says that it has waited as long as it may.
+    ///
+    /// Where the shape is found dropped, its number is removed for the shape's cause, and the request is looked up again.
+    pub fn ask<R: Wait>(
+        &self,
+        rt: &R,
+        pass: &mut RegPass<T>,
+        ask: &Ask,
+        late: bool,
+    ) -> Result<Asked, OutOfMemory>
+        requires lock { pass.old.reg.lock ≡ self.now.lock }
+        requires known { AreSeats pass.old.reg.seen pass.old.seats }
+        ensures answers { IfOk result (Answers T.knows T.unread pass.new.reg pass.new.seats ask.now late) }
+        ensures on { AsksOn T.knows T.unread pass.old.reg pass.new.reg pass.old.seats pass.new.seats }
+        ensures legal { IsLegalFor pass.new.reg.fixed pass.new.reg.seen }
+        ensures known { AreSeats pass.new.reg.seen pass.new.seats }
+    {
+        answer(rt, &self.lock, pass, ask, late)
     }
 }
