@@ -38,7 +38,7 @@ placed_if false c k numbers n here there h = left_next k numbers n (there h)
 tied : (k n : ℕ) → eq_by_cmp nat_cmp n k ≡ true → k ≡ n
 tied k n e = sym (same_number n k (sym (unsigned_tied n k) ∙ e))
 
-placed : (numbers : List ℕ) (n : ℕ) → list_any (eq_by_cmp nat_cmp n) numbers ≡ true → IsLeft numbers 0 n
+pub placed : (numbers : List ℕ) (n : ℕ) → list_any (eq_by_cmp nat_cmp n) numbers ≡ true → IsLeft numbers 0 n
 placed [] n h = absurd (false≢true h)
 placed (k ∷ numbers) n h = placed_if (eq_by_cmp nat_cmp n k) (list_any (eq_by_cmp nat_cmp n) numbers) k numbers n (tied k n) (placed numbers n) h
 

@@ -7,3 +7,4 @@ pub mod Copying
 pub mod Snapping
 pub mod Found
 pub mod Visiting
+pub mod Told

@@ -1,5 +1,5 @@
 -- What one pass gets of another.
-use Rattle.std.specs.Prelude.{◌≡◌, ℕ, Bool, List, [], Option, None, Some}
+use Rattle.std.specs.Prelude.{◌≡◌, ℕ, Bool, List, [], Option, None, Some, IfSome, IsSomeAnd}
 use Rattle.std.specs.Ordering.{nat_cmp}
 use Rattle.std.specs.FinMap.{FinMap}
 use Rattle.std.specs.FinMap as fin
@@ -49,3 +49,19 @@ module _ {A : Type 0} where
   -- both have seats of the same numbers, and each two are so related
   abbrev pub AreEach : (Seated A → Seated A → Type 0) → FinMap nat_cmp (Seated A) → FinMap nat_cmp (Seated A) → Type 0
   AreEach R seats seats' = (number : ℕ) → AreBoth R (fin.get seats number) (fin.get seats' number)
+
+  -- the second is of the first one's shape, and has seen at least as much of it
+  pub record HasSeen (s t : Seated A) : Type 0 where
+    pub lock : t.pass.lock ≡ s.pass.lock
+    pub seen : IsPrefix s.pass.seen t.pass.seen
+
+  -- of each shape of which was told there is a seat that has seen at least as much
+  abbrev pub AreTold : FinMap nat_cmp (Seated A) → FinMap nat_cmp (Seated A) → Type 0
+  AreTold told seats = (number : ℕ) → IfSome (fin.get told number) (λ s. IsSomeAnd (fin.get seats number) (HasSeen s))
+
+  -- who learns has seats of the same locks, and what is told has no events of the teller
+  abbrev pub Fits : FinMap nat_cmp (Seated A) → FinMap nat_cmp (Seated A) → Type 0
+  Fits told seats = (number : ℕ) → IfSome (fin.get told number) (λ s. (s.pass.own ≡ []) × IfSome (fin.get seats number) (λ t. t.pass.lock ≡ s.pass.lock))
+
+  abbrev pub AreBare : FinMap nat_cmp (Seated A) → Type 0
+  AreBare told = (number : ℕ) → IfSome (fin.get told number) (λ s. s.pass.own ≡ [])

@@ -21,6 +21,7 @@ mod slot;
 mod started;
 mod step;
 mod steps;
+mod telling;
 mod visits;
 
 pub use asked::Asked;

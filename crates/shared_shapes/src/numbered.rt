@@ -71,6 +71,14 @@ impl<V: Drop> Numbered<V> {
         }
     }
 
+    /// Takes the value of a number out.
+    pub(crate) fn take(&mut self, number: u64) -> Option<V>
+        ensures value { result ≡ fin.get self.old number }
+        ensures rest { self.new ≡ fin.remove self.old number }
+    {
+        self.values.remove(&number)
+    }
+
     /// A number has no value any more.
     pub(crate) fn remove(&mut self, number: u64)
         ensures { self.new ≡ fin.remove self.old number }

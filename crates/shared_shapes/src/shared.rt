@@ -1,5 +1,5 @@
 //! The registry's lock, and the calls on it.
-ghost use Rattle.std.specs.Prelude.{◌≡◌, ◌∷◌, [], IsSome, IsSomeAnd, IfOk, IfErr, OnErr, map};
+ghost use Rattle.std.specs.Prelude.{◌≡◌, ◌∷◌, [], IsSome, IsSomeAnd, IfOk, IfErr, OnOk, OnErr, map};
 ghost use Rattle.std.specs.FinMap as fin;
 ghost use mathlib.Core.List.{IsPrefix};
 ghost use Rattle.front_lock.specs.Passes.{IsSameLock};
@@ -9,12 +9,12 @@ ghost use Rattle.shape_state.specs.Reading.{reader_of};
 ghost use Rattle.shape_lock.specs.Passes.{Suits, snapshot_of};
 ghost use Rattle.shape_registry.specs.ByHistory.{standing_after};
 ghost use Rattle.shared_shapes.specs.Events.{plain, events_of};
-ghost use Rattle.shared_shapes.specs.Sharing.{Halves, IsSame, IsCopy, AreEach};
+ghost use Rattle.shared_shapes.specs.Sharing.{Halves, IsSame, IsCopy, AreEach, AreBare, AreTold};
 ghost use Rattle.shared_shapes.specs.Passes.{StepsOn, IsServed, IsLegalFor};
 ghost use Rattle.shared_shapes.specs.Seats.{AreSeats};
 ghost use Rattle.shared_shapes.specs.Calls.{Registers, IsUnstarted, IsStartedWith};
 ghost use Rattle.shared_shapes.specs.Changing.{Finishes, IsUnfinished, IsDropped};
-ghost use Rattle.shared_shapes.specs.Asking.{Answers, AsksOn};
+ghost use Rattle.shared_shapes.specs.Asking.{Answers, AreOn, AsksOn};
 
 use crate::ask::answer;
 use crate::asked::Asked;
@@ -27,6 +27,7 @@ use crate::passes::{RegNote, RegPass};
 use crate::seats::{drop_at, snap_at};
 use crate::started::{StartError, Started};
 use crate::steps;
+use crate::telling::tell_all;
 use front_lock::FrontLock;
 use lock_events::Pen;
 use shape_base::{
@@ -119,24 +120,32 @@ impl<T: RowTest> Shared<T> {
         requires known { AreSeats pass.old.reg.seen pass.old.seats }
         ensures kept { (pass.new.reg ≡ pass.old.reg) × AreEach IsSame pass.old.seats pass.new.seats }
         ensures note { IfOk result (λ n. IsSameLock pass.old.reg n.reg × (n.reg.seen ≡ pass.old.reg.seen) × AreEach IsCopy pass.old.seats n.seats) }
-        ensures known { AreSeats pass.new.reg.seen pass.new.seats × IfOk result (λ n. AreSeats n.reg.seen n.seats) }
+        ensures known { AreSeats pass.new.reg.seen pass.new.seats × IfOk result (λ n. AreSeats n.reg.seen n.seats × AreBare n.seats) }
     {
         let seats = copy_all(alloc, &mut pass.seats)?;
         let reg = pass.reg.note(&self.lock);
         Ok(RegNote { reg, seats })
     }
 
-    /// The pass has then seen of the registry at least what it and the noting pass had.
-    pub fn learn(&self, pass: &mut RegPass<T>, note: RegNote<T>)
+    /// The pass has then seen at least what it and the noting pass had, of the registry and of each shape. At Err of the registry and of some shapes.
+    pub fn learn(
+        &self,
+        alloc: Global,
+        pass: &mut RegPass<T>,
+        note: RegNote<T>,
+    ) -> Result<(), OutOfMemory>
         requires lock { (pass.old.reg.lock ≡ self.now.lock) × (note.reg.lock ≡ self.now.lock) }
         requires known { AreSeats pass.old.reg.seen pass.old.seats }
+        requires note { AreSeats note.reg.seen note.seats × AreBare note.seats }
         ensures on { StepsOn pass.old.reg pass.new.reg [] }
         ensures told { IsPrefix note.reg.seen pass.new.reg.seen }
-        ensures seats { pass.new.seats ≡ pass.old.seats }
+        ensures seats { AreOn pass.old.seats pass.new.seats }
+        ensures shapes { OnOk result (AreTold note.seats pass.new.seats) }
         ensures known { AreSeats pass.new.reg.seen pass.new.seats }
     {
-        let RegNote { reg, seats: _ } = note;
+        let RegNote { reg, seats } = note;
         pass.reg.learn(&self.lock, reg);
+        tell_all(alloc, &mut pass.seats, seats)
     }
 
     /// Registers a shape of this test, which waits for its snapshot. The caller alone may give it that.
