@@ -12,7 +12,7 @@ visit_at-requires-clause-lock g c = let n = c.in-Ok-Shape.number in let old = c.
 
 pub shaped-requires : goal.shaped-requires
 shaped-requires g c = let w = c.in-Ok.ensures.visits in
-    never_starting g.T.RowTest.knows g.T.RowTest.unread w.after.pass.fixed w.after.pass.seen c.place_of-place.result.0 c.place_of-place.result.1 c.args.late c.in-Ok.paged w.paged_is
+    never_starting g.T.RowTest.knows g.T.RowTest.unread w.after.pass.fixed w.after.pass.seen c.place_of-place.result.0 c.place_of-place.result.1 _ c.in-Ok.paged w.paged_is
     (snapshot_on c.in-Ok-Shape.seat.pass.seen w.after.pass.seen w.seen (subst (λ m. IsMet (run_in c.meet.new.me.fixed) c.meet.new.me.seen c.args.ask.now m) c.in-Ok-Shape.field-0-is c.in-Ok-Shape.ensures.met).1.snapshot)
 
 pub returns-in-Ok-Told-clause-answers : goal.returns-in-Ok-Told-clause-answers
