@@ -1,7 +1,12 @@
 -- A caller's seats and its own events as its asks go on.
-use Rattle.std.proofs.Common.{◌≡◌, ℕ, Bool, true, false, cond, List, [], ◌∷◌, ◌++◌, Option, Some, None, refl, sym, ap, ◌∙◌, subst, append_assoc, append-nil, nat_cmp}
+use Rattle.std.proofs.Common.{◌≡◌, ℕ, Bool, true, false, cond, List, [], ◌∷◌, ◌++◌, Option, Some, None, refl, sym, ap, ◌∙◌, subst, append_assoc, append-nil, nat_cmp, ◌+◌, ◌-◌, ◌^◌, ◌<◌, ◌≤◌, length, arith, ⊎_elim, min}
 use Rattle.std.specs.Prelude.{IfSome, IsSome, IsSomeAnd, Result, Ok, Err, IfOk}
 use Rattle.shape_base.specs.declared.memory.OutOfMemory.{OutOfMemory}
+use Rattle.std.proofs.Math.Nat.{min-eq_left, min-eq_right}
+use Rattle.std.proofs.lemmas.Bool.{cases_lt}
+use Rattle.shape_base.specs.RegistryHistory.{transactions, taken_before}
+use Rattle.shape_json.specs.Body.{capped}
+use Rattle.shape_lock.specs.declared.calls.Looked.{Looked}
 use Rattle.std.specs.Ordering.{eq_by_cmp}
 use Rattle.std.specs.Cmp.{nat_cmp_total, unsigned_tied}
 use Rattle.std.specs.FinMap as fin
@@ -17,7 +22,7 @@ use Rattle.shape_base.specs.Snapshot.{Snapshot}
 use Rattle.shape_base.specs.Tables.{Values}
 use Rattle.shape_base.specs.Shape.{Knows}
 use Rattle.shape_base.specs.RegistryHistory.{IsLegal}
-use Rattle.shape_json.specs.ShapeHistory.{Reader, ShapeEvent, ShapeState, Starting, Ready, Gone, snapshot_in, or_else, drop_at, drop_from, drop_of, state_by, state_after}
+use Rattle.shape_json.specs.ShapeHistory.{taken, Reader, ShapeEvent, ShapeState, Starting, Ready, Gone, snapshot_in, or_else, drop_at, drop_from, drop_of, state_by, state_after}
 use Rattle.shape_state.specs.declared.paged.Paged as pages
 use Rattle.shape_state.specs.declared.paged.Paged.TheVariants as paged
 use Rattle.shape_state.specs.Answers.{IsPagedOf, IsPaged}
@@ -33,7 +38,7 @@ use Rattle.shared_shapes.specs.declared.asked.Asked.TheVariants as asked
 use Rattle.shared_shapes.specs.Events.{Noted, events_of}
 use Rattle.shared_shapes.specs.Passes.{RegSight, StepsOn, IsLegalFor, shapes_in, removed_if}
 use Rattle.shared_shapes.specs.Seats.{Seated, IsSeat, AreSeats, AtSeat}
-use Rattle.shared_shapes.specs.Asking.{run_in, IsTold, IsShaped, Follows, IsOn, AreOn, Admits, Looks, Visits, start_of, waits_of, log_in, log_of, chunk_in, shape_of, situation, IsSource, Answers, IsGoneAs, AreRemovals, AsksOn}
+use Rattle.shared_shapes.specs.Asking.{run_in, IsTold, IsShaped, Follows, IsOn, AreOn, Admits, Looks, Visits, start_of, waits_of, log_in, log_of, chunk_in, shape_of, situation, IsSource, taken_of, came, Answers, IsGoneAs, AreRemovals, AsksOn}
 use Rattle.shared_shapes.proofs.Boards.{equal, itself}
 use Rattle.shared_shapes.proofs.Seating.{seats_put, seat_here}
 use Rattle.shared_shapes.proofs.Found.{told_says, shaped_says, ready_found, IsFoundReady}
@@ -103,7 +108,7 @@ module _ {A : Type 0} where
     admits_known es all h = subst (λ m. AreSeats es m) (sym a.now) (seats_put es seats n a.after all (a.known es (all n) h))
 
 module _ {A : Type 0} (knows : A → Knows) (unread : A → Values → ℕ → Bool) (seats middle seats' : FinMap nat_cmp (Seated A)) (n : ℕ) (v : Seated A) (offset : Offset) (live late : Bool)
-    (r : Result pages.Paged OutOfMemory) (a : Admits seats middle n v) (l : AtSeat middle seats' n (Looks knows unread offset live late r)) where
+    (r : Result Looked OutOfMemory) (a : Admits seats middle n v) (l : AtSeat middle seats' n (Looks knows unread offset live late r)) where
   same_seat : l.before ≡ a.after
   same_seat = some_is l.before a.after (sym l.was ∙ got seats middle n a.after a.now)
 
@@ -114,18 +119,19 @@ module _ {A : Type 0} (knows : A → Knows) (unread : A → Values → ℕ → B
   visit_known es all h = let all' = admits_known seats middle n v a es all h in
       subst (λ m. AreSeats es m) (sym l.now) (seats_put es middle n l.after all' (seat_follows es n l.before l.after l.on.on (seat_here es middle n l.before all' (sym l.was))))
 
-  visits_if : (x : Result pages.Paged OutOfMemory) → IfOk x (IsPagedIn knows unread l.after.pass.fixed l.after.pass.seen offset live late) → IfOk x (Visits knows unread seats' n v offset live late)
-  visits_if (Ok p) h = record {
+  visits_if : (x : Result Looked OutOfMemory) → IfOk x (λ q. IsPagedIn knows unread l.after.pass.fixed l.after.pass.seen offset live late q.paged) → IfOk x (λ q. q.took ≡ capped (length (taken l.after.pass.seen))) → IfOk x (Visits knows unread seats' n v offset live late)
+  visits_if (Ok p) h t = record {
     after = l.after;
     now = got middle seats' n l.after l.now;
     seen = prefix_trans v.pass.seen l.before.pass.seen l.after.pass.seen (subst (λ (s : Seated A). IsPrefix v.pass.seen s.pass.seen) (sym same_seat) a.seen) l.on.on.seen;
     legal = l.on.legal;
     paged_is = h;
+    took_is = t;
   }
-  visits_if (Err e) h = tt
+  visits_if (Err e) h t = tt
 
   pub visits : IfOk r (Visits knows unread seats' n v offset live late)
-  visits = visits_if r l.on.paged_is
+  visits = visits_if r l.on.paged_is l.on.took_is
 
 -- ---- a shape
 
@@ -175,6 +181,30 @@ legal_in (Some d) es h = h
 pub found_is_ready : {A : Type 0} (f : Option RegistryData) (es : List (Noted A)) (ask : Ask) (n : ℕ) → IsLegalFor f es → found_after (run_in f) (events_of es) ask.identity ask.named ≡ found.Ready n → IsFoundReady (events_of es) n
 found_is_ready f es ask n legal e = ready_found (shapes_in f) (run_in f) (events_of es) ask n (legal_in f es legal) e
 
+-- ---- counts
+
+cap_twice : (a b : ℕ) → capped (a + capped b) ≡ capped (a + b)
+cap_twice a b = by_limit (2 ^ 64 - 1)
+  where
+    by_limit : (m : ℕ) → min (a + min b m) m ≡ min (a + b) m
+    by_limit m = ⊎_elim (λ (l : b < m). ap (λ x. min (a + x) m) (min-eq_left (let h = l in omega arith)))
+        (λ (l : m ≤ b). ap (λ x. min (a + x) m) (min-eq_right l) ∙ min-eq_right (let h = l in omega arith) ∙ sym (min-eq_right (let h = l in omega arith))) (cases_lt b m)
+
+shaped_by : (p : pages.Paged) (n : ℕ) (a : Asked) → IsShaped n p a → shape_of a ≡ Some n
+shaped_by (paged.Page page) n a f = ap shape_of f
+shaped_by paged.NotYet n a f = ap shape_of f
+shaped_by paged.Starting n a f = absurd f
+shaped_by (paged.Gone c) n a f = absurd f
+shaped_by (paged.OffsetAhead e) n a f = ap shape_of f
+
+told_by_none : (f : Found) (a : Asked) → IsTold f a → shape_of a ≡ None
+told_by_none f (asked.Page n p) h = absurd h
+told_by_none f (asked.NotYet n) h = absurd h
+told_by_none f (asked.Starting n) h = refl
+told_by_none f (asked.Gone o) h = refl
+told_by_none f (asked.OffsetAhead n e) h = absurd h
+told_by_none f asked.Unregistered h = refl
+
 module _ {A : Type 0} (knows : A → Knows) (unread : A → Values → ℕ → Bool) where
   pub never_starting : (f : Option (ShapeStart A)) (es : List ShapeEvent) (o : Offset) (live late : Bool) (p : pages.Paged) → IsPagedIn knows unread f es o live late p → IsSome (snapshot_in es) → p ≡ paged.Starting → ⊥
   never_starting None es o live late p h s e = h
@@ -190,24 +220,27 @@ module _ {A : Type 0} (knows : A → Knows) (unread : A → Values → ℕ → B
 
   -- ---- answers
 
-  pub told_answers : (k : RegSight A) (seats : FinMap nat_cmp (Seated A)) (ask : Ask) (late : Bool) (a : Asked) → IsLegalFor k.fixed k.seen → IsTold (found_after (run_in k.fixed) (events_of k.seen) ask.identity ask.named) a → Answers knows unread k seats ask late a
-  told_answers k seats ask late a legal h = record {
+  pub told_answers : (k : RegSight A) (seats : FinMap nat_cmp (Seated A)) (ask : Ask) (late : Bool) (a : Asked) (count : ℕ) → IsLegalFor k.fixed k.seen → IsTold (found_after (run_in k.fixed) (events_of k.seen) ask.identity ask.named) a → count ≡ length (transactions (events_of k.seen)) → Answers knows unread k seats ask late a count
+  told_answers k seats ask late a count legal h is = record {
     chunk = 0;
     says = told_says (shapes_in k.fixed) (situation knows unread k seats late 0) ask a (legal_in k.fixed k.seen legal) h;
+    count_is = is ∙ ap (came knows unread k seats) (sym (told_by_none (found_after (run_in k.fixed) (events_of k.seen) ask.identity ask.named) a h));
     shape = no_shape (found_after (run_in k.fixed) (events_of k.seen) ask.identity ask.named) a _ h;
   }
 
-  pub shaped_answers : (k : RegSight A) (seats : FinMap nat_cmp (Seated A)) (n : ℕ) (v : Seated A) (ask : Ask) (late : Bool) (o : Offset) (live : Bool) (p : pages.Paged) (a : Asked) → IsLegalFor k.fixed k.seen
+  pub shaped_answers : (k : RegSight A) (seats : FinMap nat_cmp (Seated A)) (n : ℕ) (v : Seated A) (ask : Ask) (late : Bool) (o : Offset) (live : Bool) (q : Looked) (a : Asked) (before count : ℕ) → IsLegalFor k.fixed k.seen
       → found_after (run_in k.fixed) (events_of k.seen) ask.identity ask.named ≡ found.Ready n → o ≡ start_of ask.named ask.offset → live ≡ waits_of ask.named ask.live
-      → Visits knows unread seats n v o live late p → IsShaped n p a → Answers knows unread k seats ask late a
-  shaped_answers k seats n v ask late o live p a legal e from waiting w f =
-      let s = situation knows unread k seats late (chunk_in w.after.pass.fixed) in
+      → Visits knows unread seats n v o live late q → IsShaped n q.paged a → before ≡ taken_before (events_of k.seen) n → count ≡ capped (before + q.took) → Answers knows unread k seats ask late a count
+  shaped_answers k seats n v ask late o live q a before count legal e from waiting w f early is =
+      let p = q.paged in let s = situation knows unread k seats late (chunk_in w.after.pass.fixed) in
       let here : IsPagedOf s.chunk (log_of knows unread (Some w.after)) o live late p = paged_in w.after.pass.fixed w.after.pass.seen o live late p n a w.paged_is f in
       let log : IsPagedOf s.chunk (s.log n) o live late p = subst (λ x. IsPagedOf s.chunk (log_of knows unread x) o live late p) (sym w.now) here in
       let place : IsPagedOf s.chunk (s.log n) (start_of ask.named ask.offset) (waits_of ask.named ask.live) late p = subst (λ y. IsPagedOf s.chunk (s.log n) (start_of ask.named ask.offset) y late p) waiting (subst (λ x. IsPagedOf s.chunk (s.log n) x live late p) from log) in
       record {
         chunk = chunk_in w.after.pass.fixed;
         says = shaped_says s ask n a (shapes_in k.fixed) p (legal_in k.fixed k.seen legal) e place f;
+        count_is = is ∙ ap capped (ap (λ b. b + q.took) early ∙ ap (λ t. taken_before (events_of k.seen) n + t) w.took_is) ∙ cap_twice (taken_before (events_of k.seen) n) (length (taken w.after.pass.seen))
+            ∙ ap (λ x. capped (taken_before (events_of k.seen) n + length (taken_of knows unread x))) (sym w.now) ∙ ap (came knows unread k seats) (sym (shaped_by p n a f));
         shape = shape_is p n a _ f (subst (λ x. IsSomeAnd x (IsSource knows unread (chunk_in w.after.pass.fixed))) (sym w.now) (record { legal = w.legal; chunk_is = refl }));
       }
 
@@ -243,15 +276,15 @@ module _ {A : Type 0} (knows : A → Knows) (unread : A → Values → ℕ → B
   pub asks_look : (k k' : RegSight A) (x y : FinMap nat_cmp (Seated A)) → StepsOn k k' [] → AreOn x y → AsksOn knows unread k k' x y
   asks_look k k' x y on each = record { lock = on.lock; share = on.share; seen = on.seen; made = []; mine = on.mine; removals = tt; each = each }
 
-  pub asks_remove : (k k' k'' : RegSight A) (x y : FinMap nat_cmp (Seated A)) (wrote : Bool) (n : ℕ) (v : Seated A) (o : Offset) (live late : Bool) (p : pages.Paged) (c : Cause) → StepsOn k k' [] → StepsOn k' k'' (removed_if wrote n c) → AreOn x y
-      → Visits knows unread y n v o live late p → p ≡ paged.Gone c → AsksOn knows unread k k'' x y
-  asks_remove k k' k'' x y wrote n v o live late p c a b each w e = record {
+  pub asks_remove : (k k' k'' : RegSight A) (x y : FinMap nat_cmp (Seated A)) (wrote : Bool) (n : ℕ) (v : Seated A) (o : Offset) (live late : Bool) (q : Looked) (c : Cause) → StepsOn k k' [] → StepsOn k' k'' (removed_if wrote n c) → AreOn x y
+      → Visits knows unread y n v o live late q → q.paged ≡ paged.Gone c → AsksOn knows unread k k'' x y
+  asks_remove k k' k'' x y wrote n v o live late q c a b each w e = record {
     lock = (b.lock.0 ∙ a.lock.0, b.lock.1 ∙ a.lock.1);
     share = (b.share.0 ∙ a.share.0, b.share.1 ∙ a.share.1);
     seen = prefix_trans k.seen k'.seen k''.seen a.seen b.seen;
     made = removed_if wrote n c;
     mine = b.mine ∙ ap (λ l. l ++ removed_if wrote n c) (a.mine ∙ append-nil (mine k));
-    removals = removal_if y wrote n c (subst (λ s. IsSomeAnd s (IsGoneAs knows unread c)) (sym w.now) (gone_in w.after.pass.fixed w.after.pass.seen o live late p c w.paged_is e));
+    removals = removal_if y wrote n c (subst (λ s. IsSomeAnd s (IsGoneAs knows unread c)) (sym w.now) (gone_in w.after.pass.fixed w.after.pass.seen o live late q.paged c w.paged_is e));
     each = each;
   }
 

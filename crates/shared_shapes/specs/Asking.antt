@@ -1,5 +1,5 @@
 -- What an ask is answered, by what the caller has seen after it.
-use Rattle.std.specs.Prelude.{◌≡◌, ℕ, Bool, false, List, [], ◌∷◌, ◌++◌, Option, None, Some, IfSome, IsSome, IsSomeAnd, Result, IfOk}
+use Rattle.std.specs.Prelude.{◌≡◌, ℕ, ◌+◌, length, Bool, false, List, [], ◌∷◌, ◌++◌, Option, None, Some, IfSome, IsSome, IsSomeAnd, Result, IfOk}
 use Rattle.std.specs.Option.{option_map}
 use Rattle.std.specs.Ordering.{nat_cmp}
 use Rattle.std.specs.FinMap.{FinMap}
@@ -15,19 +15,23 @@ use Rattle.shape_base.specs.declared.ask.Ask.{Ask}
 use Rattle.shape_base.specs.declared.ask.Named.{Named}
 use Rattle.shape_base.specs.declared.ask.Named.TheVariants.{Absent, Known, Strange}
 use Rattle.shape_base.specs.declared.registry_event.RegistryEvent.TheVariants.{Removed}
+use Rattle.shape_base.specs.declared.change.Tx.{Tx}
+use Rattle.shape_base.specs.RegistryHistory.{transactions, taken_before}
+use Rattle.shape_json.specs.Body.{capped}
 use Rattle.shape_base.specs.Tables.{Values}
 use Rattle.shape_base.specs.Shape.{Knows}
 use Rattle.chunked_log.specs.Chunked.{Carries}
 use Rattle.shape_json.specs.Page.{Part}
 use Rattle.shape_json.specs.Answer.{Situation, answer_of, in_run}
 use Rattle.shape_json.specs.Answer as answers
-use Rattle.shape_json.specs.ShapeHistory.{ShapeState, Starting, Ready, Gone, snapshot_in}
+use Rattle.shape_json.specs.ShapeHistory.{ShapeState, Starting, Ready, Gone, snapshot_in, taken}
 use Rattle.shape_state.specs.declared.paged.Paged.{Paged}
 use Rattle.shape_state.specs.declared.paged.Paged.TheVariants as paged
 use Rattle.shape_registry.specs.declared.found.Found.{Found}
 use Rattle.shape_registry.specs.declared.found.Found.TheVariants as found
 use Rattle.shape_registry.specs.ByHistory.{found_after}
 use Rattle.shape_lock.specs.declared.start.ShapeStart.{ShapeStart}
+use Rattle.shape_lock.specs.declared.calls.Looked.{Looked}
 use Rattle.shape_lock.specs.Starts.{state_in, drop_in, IsLegalIn, IsPagedIn}
 use Rattle.shared_shapes.specs.declared.registry_data.RegistryData.{RegistryData}
 use Rattle.shared_shapes.specs.declared.asked.Asked.{Asked}
@@ -62,10 +66,10 @@ module _ {A : Type 0} where
     pub right : s.right ≡ None
     pub snapshot : IsSome (snapshot_in s.pass.seen)
 
-  -- what is met for a request after these events: a ready number with a pass of its shape, or what is told
+  -- what is met for a request after these events: a ready number with a pass of its shape, or what is told; and how many transactions had been taken when the number was given, or by then
   abbrev pub IsMet : List ℕ → List (Noted A) → Ask → Met (Seated A) → Type 0
-  IsMet run es ask (Shape number seat) = (found_after run (events_of es) ask.identity ask.named ≡ found.Ready number) × IsVisit es number seat
-  IsMet run es ask (Told a) = IsTold (found_after run (events_of es) ask.identity ask.named) a
+  IsMet run es ask (Shape number before seat) = (found_after run (events_of es) ask.identity ask.named ≡ found.Ready number) × (before ≡ taken_before (events_of es) number) × IsVisit es number seat
+  IsMet run es ask (Told a count) = IsTold (found_after run (events_of es) ask.identity ask.named) a × (count ≡ length (transactions (events_of es)))
 
 -- ---- a shape
 
@@ -157,32 +161,45 @@ module _ {A : Type 0} (knows : A → Knows) (unread : A → Values → ℕ → B
   abbrev pub situation : RegSight A → FinMap nat_cmp (Seated A) → Bool → ℕ → Situation
   situation k seats late chunk = record { run = run_in k.fixed; events = events_of k.seen; log = λ n. log_of (fin.get seats n); late = late; chunk = chunk }
 
+  -- the commits that came to a shape, by what its pass has seen
+  abbrev pub taken_of : Option (Seated A) → List Tx
+  taken_of None = []
+  taken_of (Some s) = taken s.pass.seen
+
+  -- How many commits had come: to a shape those before its registration and those that it took, otherwise those that the registry took. 2^64 - 1 where there were more.
+  abbrev pub came : RegSight A → FinMap nat_cmp (Seated A) → Option ℕ → ℕ
+  came k seats None = length (transactions (events_of k.seen))
+  came k seats (Some n) = capped (taken_before (events_of k.seen) n + length (taken_of (fin.get seats n)))
+
   -- the history of the shape is legal, and its chunks have this limit
   pub record IsSource (chunk : ℕ) (s : Seated A) : Type 0 where
     pub legal : IsLegalIn knows unread s.pass.fixed s.pass.seen
     pub chunk_is : chunk ≡ chunk_in s.pass.fixed
 
-  -- The answer is that of the registry's and the shape's histories that the caller has seen; the chunk is that of the shape which answered.
-  pub record Answers (k : RegSight A) (seats : FinMap nat_cmp (Seated A)) (ask : Ask) (late : Bool) (a : Asked) : Type 0 where
+  -- The answer is that of the registry's and the shape's histories that the caller has seen, with the count of commits in them; the chunk is that of the shape which answered.
+  pub record Answers (k : RegSight A) (seats : FinMap nat_cmp (Seated A)) (ask : Ask) (late : Bool) (a : Asked) (count : ℕ) : Type 0 where
     pub chunk : ℕ
     pub says : Says (situation k seats late chunk) ask a
+    pub count_is : count ≡ came k seats (shape_of a)
     pub shape : IfSome (shape_of a) (λ n. IsSomeAnd (fin.get seats n) (IsSource chunk))
 
   -- ---- what an ask changes
 
   -- a look at the shape of a seat: what was answered is that of the history that its pass has seen then
-  pub record Looks (offset : Offset) (live late : Bool) (r : Result Paged OutOfMemory) (s s' : Seated A) : Type 0 where
+  pub record Looks (offset : Offset) (live late : Bool) (r : Result Looked OutOfMemory) (s s' : Seated A) : Type 0 where
     pub on : Follows s s'
     pub legal : IsLegalIn knows unread s'.pass.fixed s'.pass.seen
-    pub paged_is : IfOk r (IsPagedIn knows unread s'.pass.fixed s'.pass.seen offset live late)
+    pub paged_is : IfOk r (λ l. IsPagedIn knows unread s'.pass.fixed s'.pass.seen offset live late l.paged)
+    pub took_is : IfOk r (λ l. l.took ≡ capped (length (taken s'.pass.seen)))
 
   -- a visitor's look at the shape of a number: the seat that there is then, and what was answered
-  pub record Visits (seats' : FinMap nat_cmp (Seated A)) (number : ℕ) (v : Seated A) (offset : Offset) (live late : Bool) (p : Paged) : Type 0 where
+  pub record Visits (seats' : FinMap nat_cmp (Seated A)) (number : ℕ) (v : Seated A) (offset : Offset) (live late : Bool) (l : Looked) : Type 0 where
     pub after : Seated A
     pub now : fin.get seats' number ≡ Some after
     pub seen : IsPrefix v.pass.seen after.pass.seen
     pub legal : IsLegalIn knows unread after.pass.fixed after.pass.seen
-    pub paged_is : IsPagedIn knows unread after.pass.fixed after.pass.seen offset live late p
+    pub paged_is : IsPagedIn knows unread after.pass.fixed after.pass.seen offset live late l.paged
+    pub took_is : l.took ≡ capped (length (taken after.pass.seen))
 
   -- the shape is seen dropped for this cause
   abbrev pub IsGoneAs : Cause → Seated A → Type 0

@@ -21,21 +21,27 @@ fn answer_once<T: RowTest, R: Wait>(
     pass: &mut RegPass<T>,
     ask: &Ask,
     late: bool,
-) -> Result<Option<Asked>, OutOfMemory>
+) -> Result<Option<(Asked, u64)>, OutOfMemory>
     requires lock { pass.old.reg.lock ≡ lock.now }
     requires known { AreSeats pass.old.reg.seen pass.old.seats }
-    ensures answers { IfOk result (λ o. IfSome o (Answers T.knows T.unread pass.new.reg pass.new.seats ask.now late)) }
+    ensures answers { IfOk result (λ o. IfSome o (λ a. Answers T.knows T.unread pass.new.reg pass.new.seats ask.now late a.0 a.1)) }
     ensures on { AsksOn T.knows T.unread pass.old.reg pass.new.reg pass.old.seats pass.new.seats }
     ensures legal { IsLegalFor pass.new.reg.fixed pass.new.reg.seen }
     ensures known { AreSeats pass.new.reg.seen pass.new.seats }
 {
     match meet(rt, lock, &mut pass.reg, ask) {
-        Ok(Met::Told { asked }) => Ok(Some(asked)),
-        Ok(Met::Shape { number, seat }) => {
+        Ok(Met::Told { asked, count }) => Ok(Some((asked, count))),
+        Ok(
+            Met::Shape {
+                number,
+                before,
+                seat,
+            },
+        ) => {
             let place = place_of(ask);
             match visit_at(rt, &mut pass.seats, number, seat, place, late) {
-                Ok(paged) => match shaped(number, paged) {
-                    Ok(asked) => Ok(Some(asked)),
+                Ok(looked) => match shaped(number, looked.paged) {
+                    Ok(asked) => Ok(Some((asked, before.saturating_add(looked.took)))),
                     Err(cause) => {
                         remove(rt, lock, &mut pass.reg, number, cause);
                         Ok(None)
@@ -55,17 +61,17 @@ pub(crate) fn answer<T: RowTest, R: Wait>(
     pass: &mut RegPass<T>,
     ask: &Ask,
     late: bool,
-) -> Result<Asked, OutOfMemory>
+) -> Result<(Asked, u64), OutOfMemory>
     requires lock { pass.old.reg.lock ≡ lock.now }
     requires known { AreSeats pass.old.reg.seen pass.old.seats }
-    ensures answers { IfOk result (Answers T.knows T.unread pass.new.reg pass.new.seats ask.now late) }
+    ensures answers { IfOk result (λ a. Answers T.knows T.unread pass.new.reg pass.new.seats ask.now late a.0 a.1) }
     ensures on { AsksOn T.knows T.unread pass.old.reg pass.new.reg pass.old.seats pass.new.seats }
     ensures legal { IsLegalFor pass.new.reg.fixed pass.new.reg.seen }
     ensures known { AreSeats pass.new.reg.seen pass.new.seats }
 {
     for _ in rt.forever() {
         match answer_once(rt, lock, pass, ask, late) {
-            Ok(Some(asked)) => return Ok(asked),
+            Ok(Some(answer)) => return Ok(answer),
             Ok(None) => {}
             Err(e) => return Err(e),
         }

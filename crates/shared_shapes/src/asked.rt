@@ -23,11 +23,11 @@ pub enum Asked {
     Unregistered,
 }
 
-/// What is met in the registry for a request: a ready number with a seat of its shape, or what the caller is told.
+/// What is met in the registry for a request: a ready number with the count of transactions before it and a seat of its shape, or what the caller is told, with the count of all.
 #[derive(Drop)]
 pub(crate) enum Met<S: Drop> {
-    Shape { number: u64, seat: S },
-    Told { asked: Asked },
+    Shape { number: u64, before: u64, seat: S },
+    Told { asked: Asked, count: u64 },
 }
 
 /// From where a request is answered, and whether it waits for what is new.

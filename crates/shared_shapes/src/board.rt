@@ -1,7 +1,7 @@
 //! The state under the registry's lock.
-ghost use Rattle.std.specs.Prelude.{◌≡◌, ◌+◌, ◌^◌, ◌-◌, ◌++◌, ◌∷◌, [], Some, IsSome, true, IfSome, IfNone, IsSomeAnd, IfOk, IfErr, OnErr};
+ghost use Rattle.std.specs.Prelude.{length, ◌≡◌, ◌+◌, ◌^◌, ◌-◌, ◌++◌, ◌∷◌, [], Some, IsSome, true, IfSome, IfNone, IsSomeAnd, IfOk, IfErr, OnErr};
 ghost use Rattle.shape_base.specs.declared.registry_event.RegistryEvent.TheVariants as events;
-ghost use Rattle.shape_base.specs.RegistryHistory.{is_live, had_ready, last_id};
+ghost use Rattle.shape_base.specs.RegistryHistory.{is_live, had_ready, last_id, transactions, taken_before};
 ghost use Rattle.shape_json.specs.ShapeHistory.{snapshot_in};
 ghost use Rattle.shape_registry.specs.ByHistory.{standing_after, found_after};
 ghost use Rattle.shared_shapes.specs.Events.{plain, began, place_in, place_of, events_of};
@@ -113,6 +113,28 @@ impl<T: RowTest> Board<T> {
     {
         let _ = held;
         self.registry.lookup(ask)
+    }
+
+    /// How many transactions were taken.
+    pub(crate) fn taken(&self, held: &Held<Board<T>>) -> u64
+        requires { IsBoard self.now.about self.now.registry self.now.fed self.now.given held.now.fixed held.now.seen }
+        ensures { result ≡ length (transactions (events_of held.now.seen)) }
+    {
+        let _ = held;
+        self.registry.taken()
+    }
+
+    /// How many had been taken when a live number was given.
+    pub(crate) fn before(&self, held: &Held<Board<T>>, number: u64) -> u64
+        requires stands { IsBoard self.now.about self.now.registry self.now.fed self.now.given held.now.fixed held.now.seen }
+        requires live { is_live (events_of held.now.seen) number ≡ true }
+        ensures { result ≡ taken_before (events_of held.now.seen) number }
+    {
+        let _ = held;
+        let Some(before) = self.registry.before(number) else {
+            unreachable!()
+        };
+        before
     }
 
     /// A seat of the shape of a ready number, for one who asks.

@@ -1,7 +1,8 @@
 //! What one caller has of one shape.
-ghost use Rattle.std.specs.Prelude.{◌≡◌, ◌∷◌, [], List, Option, None, Some, IsSome, IfOk, IfErr, OnOk, OnErr, map};
+ghost use Rattle.std.specs.Prelude.{length, ◌≡◌, ◌∷◌, [], List, Option, None, Some, IsSome, IfOk, IfErr, OnOk, OnErr, map};
 ghost use Rattle.std.specs.Arc.{arc_value};
-ghost use Rattle.shape_json.specs.ShapeHistory.{Dropped, snapshot_in};
+ghost use Rattle.shape_json.specs.Body.{capped};
+ghost use Rattle.shape_json.specs.ShapeHistory.{Dropped, snapshot_in, taken};
 ghost use Rattle.shape_json.specs.ShapeHistory as history;
 ghost use Rattle.shape_snapshot.specs.Taken.{HasTaken};
 ghost use Rattle.shape_state.specs.Reading.{reader_of};
@@ -18,9 +19,9 @@ use crate::rights::Rights;
 use front_lock::{FrontLock, Note};
 use lock_events::Pen;
 use shape_base::{Cause, Offset, OutOfMemory, Row, RowTest};
-use shape_lock::{Locked, drop_shape, finish, look};
+use shape_lock::{Locked, Looked, drop_shape, finish, look};
 use shape_snapshot::Snap;
-use shape_state::{Paged, ReadyError};
+use shape_state::ReadyError;
 use std::marker::Model;
 use std::snapshot::Snapshot;
 use std::sync::{Arc, Wait};
@@ -42,7 +43,7 @@ pub(crate) struct Seat<T: RowTest> {
 }
 
 impl<T: RowTest> Model for Seat<T> {
-    ghost use Rattle.std.specs.Prelude.{◌≡◌, [], IfSome};
+    ghost use Rattle.std.specs.Prelude.{length, ◌≡◌, [], IfSome};
     ghost use Rattle.std.specs.Arc.{arc_value};
     ghost use Rattle.shape_lock.specs.Passes.{Owes};
     ghost use Rattle.shared_shapes.specs.Seats.{Seated};
@@ -109,20 +110,18 @@ impl<T: RowTest> Seat<T> {
         offset: Offset,
         live: bool,
         late: bool,
-    ) -> Result<Paged, OutOfMemory>
+    ) -> Result<Looked, OutOfMemory>
         ensures on { Follows self.old self.new }
         ensures legal { IsLegalIn T.knows T.unread self.new.pass.fixed self.new.pass.seen }
-        ensures paged { IfOk result (IsPagedIn T.knows T.unread self.new.pass.fixed self.new.pass.seen offset live late) }
+        ensures paged { IfOk result (λ l. IsPagedIn T.knows T.unread self.new.pass.fixed self.new.pass.seen offset live late l.paged) }
+        ensures took { IfOk result (λ l. l.took ≡ capped (length (taken self.new.pass.seen))) }
     {
         let Some(pass) = self.pass.pass.take() else {
             unreachable!()
         };
         let (pass, looked) = look(rt, &self.lock, pass, offset, live, late);
         self.pass.pass = Some(pass);
-        match looked {
-            Ok(looked) => Ok(looked.paged),
-            Err(e) => Err(e),
-        }
+        looked
     }
 
     /// Drops the shape, and says whether this call did: it does not where the shape was dropped before.

@@ -13,8 +13,9 @@ ghost use Rattle.shared_shapes.specs.Changing.{Snaps, Refuses, Drops};
 use crate::numbered::Numbered;
 use crate::seat::{Seat, Snapped};
 use shape_base::{Cause, Offset, OutOfMemory, Row, RowTest};
+use shape_lock::Looked;
 use shape_snapshot::Snap;
-use shape_state::{Paged, ReadyError};
+use shape_state::ReadyError;
 use std::snapshot::Snapshot;
 use std::sync::Wait;
 
@@ -80,7 +81,7 @@ pub(crate) fn look_at<T: RowTest, R: Wait>(
     offset: Offset,
     live: bool,
     late: bool,
-) -> Result<Paged, OutOfMemory>
+) -> Result<Looked, OutOfMemory>
     requires { IsSome (fin.get seats.old number) }
     ensures { AtSeat seats.old seats.new number (Looks T.knows T.unread offset live late result) }
 {
@@ -98,7 +99,7 @@ pub(crate) fn visit_at<T: RowTest, R: Wait>(
     visitor: Seat<T>,
     place: (Offset, bool),
     late: bool,
-) -> Result<Paged, OutOfMemory>
+) -> Result<Looked, OutOfMemory>
     requires lock { IfSome (fin.get seats.old number) (λ s. s.pass.lock ≡ visitor.pass.lock) }
     requires own { visitor.pass.own ≡ [] }
     ensures on { AreOn seats.old seats.new }

@@ -223,10 +223,10 @@ impl<T: RowTest> Shared<T> {
         pass: &mut RegPass<T>,
         ask: &Ask,
         late: bool,
-    ) -> Result<Asked, OutOfMemory>
+    ) -> Result<(Asked, u64), OutOfMemory>
         requires lock { pass.old.reg.lock ≡ self.now.lock }
         requires known { AreSeats pass.old.reg.seen pass.old.seats }
-        ensures answers { IfOk result (Answers T.knows T.unread pass.new.reg pass.new.seats ask.now late) }
+        ensures answers { IfOk result (λ a. Answers T.knows T.unread pass.new.reg pass.new.seats ask.now late a.0 a.1) }
         ensures on { AsksOn T.knows T.unread pass.old.reg pass.new.reg pass.old.seats pass.new.seats }
         ensures legal { IsLegalFor pass.new.reg.fixed pass.new.reg.seen }
         ensures known { AreSeats pass.new.reg.seen pass.new.seats }

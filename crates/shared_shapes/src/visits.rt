@@ -26,19 +26,30 @@ fn meet_held<T: RowTest>(
     ensures stands { IsBoard state.new.about state.new.registry state.new.fed state.new.given held.now.fixed held.now.seen }
     ensures met { IfOk result (IsMet (run_in held.now.fixed) held.now.seen ask.now) }
 {
+    let count = state.taken(held);
     match state.found(held, ask) {
-        Found::Ready { number } => match state.visit(held, number) {
-            Ok(seat) => Ok(Met::Shape { number, seat }),
-            Err(e) => Err(e),
-        },
+        Found::Ready { number } => {
+            let before = state.before(held, number);
+            match state.visit(held, number) {
+                Ok(seat) => Ok(Met::Shape {
+                    number,
+                    before,
+                    seat,
+                }),
+                Err(e) => Err(e),
+            }
+        }
         Found::Starting { number } => Ok(Met::Told {
             asked: Asked::Starting { number },
+            count,
         }),
         Found::Gone { named } => Ok(Met::Told {
             asked: Asked::Gone { named },
+            count,
         }),
         Found::Unregistered => Ok(Met::Told {
             asked: Asked::Unregistered,
+            count,
         }),
     }
 }

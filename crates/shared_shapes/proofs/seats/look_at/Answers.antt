@@ -9,5 +9,5 @@ returns g c = let k = c.look.new.self in record {
   after = k;
   was = sym c.in-Some.ensures.value;
   now = subst (λ r. OnSome r (c.get_mut.follows.lender k ≡ fin.insert c.args.seats.now c.args.number k)) c.in-Some.is (c.get_mut.follows.holds k);
-  on = record { on = c.look.ensures.on; legal = c.look.ensures.legal; paged_is = c.look.ensures.paged };
+  on = record { on = c.look.ensures.on; legal = c.look.ensures.legal; paged_is = c.look.ensures.paged; took_is = c.look.ensures.took };
 }
