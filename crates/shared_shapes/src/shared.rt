@@ -214,7 +214,8 @@ impl<T: RowTest> Shared<T> {
         steps::remove(rt, &self.lock, &mut pass.reg, number, cause);
     }
 
-    /// Answers a request by the histories of the registry and of its shape that the pass has seen after the call. `late` says that it has waited as long as it may.
+    /// Answers a request by the histories of the registry and of its shape that the pass has seen after the call, and counts the commits in them. `late` says that it has
+    /// waited as long as it may.
     ///
     /// Where the shape is found dropped, its number is removed for the shape's cause, and the request is looked up again.
     pub fn ask<R: Wait>(
