@@ -64,7 +64,7 @@ if_weaker : {X : Type 0} (P Q : X → Type 0) (o : Option X) → ((x : X) → P 
 if_weaker P Q None f h = tt
 if_weaker P Q (Some x) f h = f x h
 
-equal : (m n : ℕ) → (m == n) ≡ true → m ≡ n
+pub equal : (m n : ℕ) → (m == n) ≡ true → m ≡ n
 equal m n e = grind (arith, nat_tests)
 
 apart : (m n : ℕ) → (m == n) ≡ false → (n == m) ≡ false
@@ -193,6 +193,23 @@ module _ {A : Type 0} where
       same_feed = b.same_feed;
       fed_is = b.fed_is ∙ sym (lsns_stay es e none);
       kept = kept;
+    }
+
+    -- the kept pass of a number split, and nothing else changed
+    pub board_kept : (number : ℕ) (k k' : Kept A) (registry' : WithKept (Kept A)) → registry'.state ≡ registry.state → registry'.kept ≡ fin.insert registry.kept number k' → Some k ≡ fin.get registry.kept number
+        → IsSameLock k.pass k'.pass → k'.pass.seen ≡ k.pass.seen → k'.ready ≡ k.ready → IsBoard about registry' fed given f es
+    board_kept number k k' registry' state same at lock seen ready = let was = kept_here number k at in record {
+      fixed = b.fixed;
+      stands = subst (λ s. Stands (start_of about) (events_of es) s) (sym state) b.stands;
+      count = b.count ∙ sym (ap (λ s. s.given) state);
+      same_feed = b.same_feed;
+      fed_is = b.fed_is;
+      kept = λ n. subst (λ o. IfSome o (IsKept es n)) (sym (ap (λ m. fin.get m n) same))
+          (put_all (IsKept es) registry.kept number k' (record {
+            place = was.place ∙ ap Some (same_place k.pass k'.pass k.ready k'.ready lock (ap (λ w. w.of) ready));
+            told = λ h. subst (λ (l : List ShapeEvent). IsSome (snapshot_in l)) (sym seen) (was.told h);
+            marked = λ h. ap (λ w. w.list) ready ∙ was.marked h;
+          }) (λ q apart. b.kept q) n);
     }
 
     pub board_redefined : (d : TableDef) (registry' : WithKept (Kept A)) → registry'.state ≡ after registry.state (Redefined d) → Adds registry.state (Redefined d) registry'.state → registry'.kept ≡ registry.kept

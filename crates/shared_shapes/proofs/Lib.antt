@@ -2,3 +2,9 @@ pub mod Places
 pub mod Boards
 pub mod Holding
 pub mod Seating
+pub mod Joining
+pub mod Copying
+pub mod Snapping
+pub mod Found
+pub mod Visiting
+pub mod Told

@@ -3,7 +3,10 @@ pub mod Changes
 pub mod Board
 pub mod Passes
 pub mod Seats
+pub mod Sharing
+pub mod Changing
 pub mod Rights
 pub mod Lends
 pub mod Calls
 pub mod Reasons
+pub mod Asking

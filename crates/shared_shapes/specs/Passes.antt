@@ -51,3 +51,8 @@ module _ {A : Type 0} where
   abbrev pub ready_if : Bool → ℕ → List (Noted A)
   ready_if true number = plain (Ready number) ∷ []
   ready_if false number = []
+
+  -- the number became ready, or was removed where there is a cause
+  abbrev pub settled_if : Bool → ℕ → Option Cause → List (Noted A)
+  settled_if wrote number None = ready_if wrote number
+  settled_if wrote number (Some cause) = removed_if wrote number cause

@@ -1,24 +1,28 @@
 //! The state under the registry's lock.
-ghost use Rattle.std.specs.Prelude.{◌≡◌, ◌+◌, ◌^◌, ◌-◌, ◌++◌, ◌∷◌, [], Some, IsSome, IfSome, IfNone, IsSomeAnd, IfOk, IfErr, OnErr};
+ghost use Rattle.std.specs.Prelude.{length, ◌≡◌, ◌+◌, ◌^◌, ◌-◌, ◌++◌, ◌∷◌, [], Some, IsSome, true, IfSome, IfNone, IsSomeAnd, IfOk, IfErr, OnErr};
 ghost use Rattle.shape_base.specs.declared.registry_event.RegistryEvent.TheVariants as events;
-ghost use Rattle.shape_base.specs.RegistryHistory.{is_live, last_id};
+ghost use Rattle.shape_base.specs.RegistryHistory.{is_live, had_ready, last_id, transactions, taken_before};
 ghost use Rattle.shape_json.specs.ShapeHistory.{snapshot_in};
-ghost use Rattle.shape_registry.specs.ByHistory.{standing_after};
+ghost use Rattle.shape_registry.specs.ByHistory.{standing_after, found_after};
 ghost use Rattle.shared_shapes.specs.Events.{plain, began, place_in, place_of, events_of};
 ghost use Rattle.shared_shapes.specs.Board.{IsBoard};
 ghost use Rattle.shared_shapes.specs.Passes.{IsServed, shapes_in, removed_if, ready_if};
 ghost use Rattle.shared_shapes.specs.Calls.{IsStartError};
 ghost use Rattle.shared_shapes.specs.Reasons.{reason_of};
+ghost use Rattle.shared_shapes.specs.Asking.{run_in, IsVisit};
 
 use crate::registry_data::RegistryData;
+use crate::seat::Seat;
 use crate::slot::Slot;
 use crate::started::StartError;
 use crate::step::RegistryStep;
 use front_lock::{Held, Note, Stands};
 use lock_events::{Pen, Trace};
-use shape_base::{Cause, Limits, OutOfMemory, RowTest, ServedTables, TableDef, TableDefs, Text};
+use shape_base::{
+    Ask, Cause, Limits, OutOfMemory, RowTest, ServedTables, TableDef, TableDefs, Text,
+};
 use shape_lock::Locked;
-use shape_registry::{RegisterError, Registry, Standing};
+use shape_registry::{Found, RegisterError, Registry, Standing};
 use std::alloc::Global;
 use std::snapshot::Snapshot;
 use std::sync::Wait;
@@ -100,6 +104,55 @@ impl<T: RowTest> Board<T> {
     {
         let _ = held;
         self.registry.standing(number)
+    }
+
+    /// What is found for a request.
+    pub(crate) fn found(&self, held: &Held<Board<T>>, ask: &Ask) -> Found
+        requires { IsBoard self.now.about self.now.registry self.now.fed self.now.given held.now.fixed held.now.seen }
+        ensures { result ≡ found_after (run_in held.now.fixed) (events_of held.now.seen) ask.now.identity ask.now.named }
+    {
+        let _ = held;
+        self.registry.lookup(ask)
+    }
+
+    /// How many transactions were taken.
+    pub(crate) fn taken(&self, held: &Held<Board<T>>) -> u64
+        requires { IsBoard self.now.about self.now.registry self.now.fed self.now.given held.now.fixed held.now.seen }
+        ensures { result ≡ length (transactions (events_of held.now.seen)) }
+    {
+        let _ = held;
+        self.registry.taken()
+    }
+
+    /// How many had been taken when a live number was given.
+    pub(crate) fn before(&self, held: &Held<Board<T>>, number: u64) -> u64
+        requires stands { IsBoard self.now.about self.now.registry self.now.fed self.now.given held.now.fixed held.now.seen }
+        requires live { is_live (events_of held.now.seen) number ≡ true }
+        ensures { result ≡ taken_before (events_of held.now.seen) number }
+    {
+        let _ = held;
+        let Some(before) = self.registry.before(number) else {
+            unreachable!()
+        };
+        before
+    }
+
+    /// A seat of the shape of a ready number, for one who asks.
+    pub(crate) fn visit(
+        &mut self,
+        held: &Held<Board<T>>,
+        number: u64,
+    ) -> Result<Seat<T>, OutOfMemory>
+        requires stands { IsBoard self.old.about self.old.registry self.old.fed self.old.given held.now.fixed held.now.seen }
+        requires ready { (is_live (events_of held.now.seen) number ≡ true) × (had_ready (events_of held.now.seen) number ≡ true) }
+        ensures stands { IsBoard self.new.about self.new.registry self.new.fed self.new.given held.now.fixed held.now.seen }
+        ensures seat { IfOk result (IsVisit held.now.seen number) }
+    {
+        let _ = held;
+        let Some(slot) = self.registry.kept_mut(number) else {
+            unreachable!()
+        };
+        slot.visit()
     }
 
     /// The id of the last transaction that was taken.

@@ -4,22 +4,29 @@
 //! histories that the pass has seen then.
 #![tactic(auto)]
 
+mod ask;
+mod asked;
 mod birth;
 mod board;
+mod copies;
 mod lent;
 mod numbered;
 mod passes;
 mod registry_data;
 mod rights;
 mod seat;
+mod seats;
 mod shared;
 mod slot;
 mod started;
 mod step;
 mod steps;
+mod telling;
+mod visits;
 
+pub use asked::Asked;
 pub use board::Board;
-pub use passes::RegPass;
+pub use passes::{RegNote, RegPass};
 pub use registry_data::RegistryData;
 pub use shared::Shared;
 pub use started::{StartError, Started};

@@ -1,5 +1,7 @@
 //! A map by number.
-ghost use Rattle.std.specs.Prelude.{◌≡◌, ℕ, IfOk, IfErr, OnOk, OnErr, None};
+ghost use Rattle.std.specs.Prelude.{◌≡◌, ℕ, IfOk, IfErr, OnOk, OnErr, None, is_some};
+ghost use Rattle.std.specs.List.{list_any};
+ghost use Rattle.std.specs.Ordering.{nat_cmp, eq_by_cmp};
 ghost use Rattle.std.specs.Option.{option_copied_mut};
 ghost use Rattle.std.specs.FinMap as fin;
 
@@ -40,6 +42,14 @@ impl<V> Numbered<V> {
         }
     }
 
+    /// The numbers that have a value.
+    pub(crate) fn numbers(&self, alloc: Global) -> Result<Vec<u64>, OutOfMemory>
+        ensures { IfOk result (λ v. (n : ℕ) → is_some (fin.get self.now n) ≡ list_any (eq_by_cmp nat_cmp n) v.items) }
+    {
+        let numbers: Vec<u64> = self.values.keys().copied().collect(alloc)?;
+        Ok(numbers)
+    }
+
     /// The value of a number, to write to.
     pub(crate) fn get_mut(&mut self, number: u64) -> Option<&mut V>
         ensures* writes_back { sem 𝓛 (lends_at V.row self.entry number result) }
@@ -59,6 +69,14 @@ impl<V: Drop> Numbered<V> {
             Ok(_) => Ok(()),
             Err(_) => Err(OutOfMemory),
         }
+    }
+
+    /// Takes the value of a number out.
+    pub(crate) fn take(&mut self, number: u64) -> Option<V>
+        ensures value { result ≡ fin.get self.old number }
+        ensures rest { self.new ≡ fin.remove self.old number }
+    {
+        self.values.remove(&number)
     }
 
     /// A number has no value any more.

@@ -1,14 +1,15 @@
 //! What the registry keeps for a live number.
-ghost use Rattle.std.specs.Prelude.{◌≡◌, [], ◌∷◌, true, Some, IfSome};
+ghost use Rattle.std.specs.Prelude.{◌≡◌, [], ◌∷◌, true, None, Some, IfSome, IfOk};
 ghost use Rattle.std.specs.Arc.{arc_value};
 ghost use mathlib.Core.List.{IsPrefix};
 ghost use Rattle.front_lock.specs.Passes.{IsSameLock};
 ghost use Rattle.shared_shapes.specs.Board.{IsUnfed};
 
 use crate::lent::Lent;
+use crate::seat::Seat;
 use front_lock::{FrontLock, Note};
 use lock_events::{Pen, Trace};
-use shape_base::RowTest;
+use shape_base::{OutOfMemory, RowTest};
 use shape_lock::Locked;
 use std::marker::Model;
 use std::mem;
@@ -63,10 +64,7 @@ impl<T: RowTest> Slot<T> {
         ensures seen { IsPrefix note.seen self.new.pass.seen }
         ensures ready { self.new.ready ≡ self.old.ready }
     {
-        let Some(pass) = self.pass.pass.take() else {
-            unreachable!()
-        };
-        self.pass.pass = Some(self.lock.learn(pass, note));
+        self.pass.learn(&self.lock, note);
     }
 
     /// The list of its readiness gets its mark, and had none before.
@@ -98,5 +96,17 @@ impl<T: RowTest> Slot<T> {
     {
         self.mark(rt, ready);
         self.tell(note);
+    }
+
+    /// A seat of its shape for one who asks, whose pass has seen as much as the kept one.
+    pub(crate) fn visit(&mut self) -> Result<Seat<T>, OutOfMemory>
+        ensures lock { IsSameLock self.old.pass self.new.pass }
+        ensures seen { self.new.pass.seen ≡ self.old.pass.seen }
+        ensures ready { self.new.ready ≡ self.old.ready }
+        ensures seat { IfOk result (λ s. IsSameLock self.old.pass s.pass × (s.pass.seen ≡ self.old.pass.seen) × (s.pass.own ≡ []) × (s.right ≡ None)) }
+    {
+        let lock = Arc::try_clone(&self.lock)?;
+        let pass = self.pass.split(&lock);
+        Ok(Seat::visitor(lock, pass))
     }
 }

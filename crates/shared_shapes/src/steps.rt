@@ -7,7 +7,7 @@ ghost use Rattle.shape_json.specs.ShapeHistory.{snapshot_in};
 ghost use Rattle.shape_registry.specs.ByHistory.{standing_after};
 ghost use Rattle.shared_shapes.specs.Events.{plain, began, place_in, place_of, events_of};
 ghost use Rattle.shared_shapes.specs.Board.{IsBoard};
-ghost use Rattle.shared_shapes.specs.Passes.{StepsOn, IsServed, shapes_in, removed_if, ready_if};
+ghost use Rattle.shared_shapes.specs.Passes.{StepsOn, IsServed, shapes_in, removed_if, ready_if, settled_if};
 ghost use Rattle.shared_shapes.specs.Seats.{AreSeats};
 ghost use Rattle.shared_shapes.specs.Calls.{IsStartError, IsUnstarted};
 
@@ -15,7 +15,7 @@ use crate::birth::Birth;
 use crate::board::Board;
 use crate::lent::Lent;
 use crate::numbered::Numbered;
-use crate::seat::Seat;
+use crate::seat::{Seat, Snapped};
 use crate::slot::Slot;
 use crate::started::{StartError, Started};
 use crate::step::{Change, plain_step, registered};
@@ -123,6 +123,33 @@ pub(crate) fn make_ready<T: RowTest, R: Wait>(
     }
     me.pass = Some(give_back(lock, held, state));
     false
+}
+
+/// Writes in the registry what became of a shape that got its snapshot, where its number is still live, and says whether it was: the number becomes ready, or is removed where the
+/// shape was dropped.
+pub(crate) fn settle<T: RowTest, R: Wait>(
+    rt: &R,
+    lock: &FrontLock<Board<T>>,
+    me: &mut Lent<Board<T>>,
+    number: u64,
+    snapped: Snapped<T>,
+) -> bool
+    requires lock { me.old.lock ≡ lock.now }
+    requires place { IsSomeAnd (place_of me.old.seen number) (λ p. (p.lock ≡ snapped.note.lock) × (p.ready ≡ snapped.ready.of)) }
+    requires right { snapped.ready.list ≡ [] }
+    requires seen { IsSome (snapshot_in snapped.note.seen) }
+    ensures on { StepsOn me.old me.new (settled_if result number snapped.gone) }
+    ensures left { result ≡ false → is_live (events_of me.new.seen) number ≡ false }
+{
+    let Snapped {
+        gone,
+        mut ready,
+        note,
+    } = snapped;
+    match gone {
+        None => make_ready(rt, lock, me, number, &mut ready, note),
+        Some(cause) => remove(rt, lock, me, number, cause),
+    }
 }
 
 /// The shape gets the next number, and its owner the seat. After a refusal nothing changed.

@@ -1,0 +1,13 @@
+use Rattle.std.proofs.Common.{sym, ◌≡◌, subst}
+use Rattle.std.specs.Option.{OnSome}
+use Rattle.std.specs.FinMap as fin
+use Rattle.shared_shapes.proofs.seats.drop_at.Goals as goal
+
+pub returns : goal.returns
+returns g c = let k = c.drop_shape.new.self in record {
+  before = c.in-Some.seat.now;
+  after = k;
+  was = sym c.in-Some.ensures.value;
+  now = subst (λ r. OnSome r (c.get_mut.follows.lender k ≡ fin.insert c.args.seats.now c.args.number k)) c.in-Some.is (c.get_mut.follows.holds k);
+  on = record { on = c.drop_shape.ensures.on; dropped = c.drop_shape.ensures.dropped; right = c.drop_shape.ensures.right };
+}
