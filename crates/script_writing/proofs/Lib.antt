@@ -1,1 +1,4 @@
 pub mod Utf8
+mod Reading
+mod Tables
+mod ReadBack

@@ -3,6 +3,7 @@
 
 mod events;
 mod fault;
+mod laws;
 mod parts;
 mod records;
 mod rows;
@@ -10,4 +11,5 @@ mod table;
 
 pub use events::write_event;
 pub use fault::WriteError;
+pub use laws::{records_are_read_back, scripts_are_read_back};
 pub use records::write_record;
