@@ -1,13 +1,13 @@
 -- Records are read back from their bytes.
-use Rattle.std.proofs.Common.{◌≡◌, ℕ, zero, suc, ◌+◌, ◌^◌, ◌<◌, ◌≤◌, Bool, true, false, ltb, cond, List, [], ◌∷◌, ◌++◌, length, map, take, drop, Option, Some, None, Result, Ok, Err, refl, sym, ap, subst, ◌∙◌, arith, ◌&&◌}
+use Rattle.std.proofs.Common.{◌≡◌, ℕ, zero, suc, ◌^◌, ◌<◌, ◌≤◌, Bool, true, false, ltb, List, [], ◌∷◌, ◌++◌, length, map, Option, Some, Result, Ok, refl, ap, ◌∙◌, arith}
 use Rattle.std.specs.Option.{option_map, option_and_then}
 use Rattle.std.specs.List.{flat_map, list_all}
-use Rattle.std.specs.Int.{w16, w32, w64, to_be_bytes, from_be_bytes}
+use Rattle.std.specs.Int.{w16, w32, w64}
 use Rattle.std.proofs.lemmas.Bool.{ltb-true, le-ltb}
 use Rattle.std.proofs.lemmas.Nat.{from_be_bytes-to_be_bytes_4}
-use Rattle.std.proofs.lemmas.List.{append-nil, append_assoc, length-append, take_at, drop_at}
+use Rattle.std.proofs.lemmas.List.{length-append, take_at, drop_at}
 use Rattle.std.proofs.lemmas.List.Concat.{flat_map-cons}
-use Rattle.byte_format.specs.Format.{Read, ◌>>=◌, number_at, byte_at}
+use Rattle.byte_format.specs.Format.{Read, number_at, byte_at}
 use Rattle.shape_base.specs.declared.definition.Column.{Column}
 use Rattle.shape_base.specs.declared.value.Value.{Value}
 use Rattle.pg_dialogue.specs.declared.login.SnapHead.{SnapHead}
@@ -20,12 +20,12 @@ use Rattle.script.specs.declared.record.Record.TheVariants.{Table, Start, Brings
 use Rattle.script.specs.Texts.{text_at}
 use Rattle.script.specs.Rows.{columns_at, rows_at}
 use Rattle.script.specs.Snapshots.{snapshot_at, start_at}
-use Rattle.script.specs.Records.{Item, all_of, read_or_bad, number_in, pair_at, long_in, piece_by, failed_by, end_at, end_by, if_empty, numbers_of, event_of, as_event, record_of}
+use Rattle.script.specs.Records.{Item, all_of, read_or_bad, number_in, pair_at, long_in, piece_by, end_at, end_by, numbers_of, event_of, as_event, record_of}
 use Rattle.script.specs.Items.{spelled, payload_at, item_at, items_then, items_in, items_of}
-use Rattle.script_writing.specs.Parts.{Spelling, ◌&◌, raw, int16, int32, int64, text, all, short_list, column, rows}
-use Rattle.script_writing.specs.Records.{snapshot, start, how, end_of, pair, event_payload, event_kind, payload, kind, framed, record_spelling, item_of}
-use Rattle.script_writing.specs.Laws.{IsReadBack, RecordsAreReadBack, ScriptsAreReadBack}
-use Rattle.script_writing.proofs.Reading.{both, IsRead, on, then, last, whole, int16_read, int32_read, int64_read, text_read, columns_read, rows_read}
+use Rattle.script_writing.specs.Parts.{◌&◌, raw, int16, int32, int64, text, short_list, column, rows}
+use Rattle.script_writing.specs.Records.{snapshot, start, how, end_of, pair, event_payload, event_kind, payload, record_spelling, item_of}
+use Rattle.script_writing.specs.Laws.{RecordsAreReadBack, ScriptsAreReadBack}
+use Rattle.script_writing.proofs.Reading.{both, on, then, last, whole, int16_read, int32_read, int64_read, text_read, columns_read, rows_read}
 use Rattle.script_writing.proofs.Tables.{table_read}
 
 -- ---- snapshots and rows at the start

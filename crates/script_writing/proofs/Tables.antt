@@ -1,22 +1,22 @@
 -- Declared tables are read back from their bytes.
-use Rattle.std.proofs.Common.{◌≡◌, ℕ, zero, suc, ◌+◌, ◌^◌, ◌<◌, Bool, true, false, eqb, ltb, cond, List, [], ◌∷◌, ◌++◌, length, Option, None, Some, Ok, Err, refl, sym, ap, subst, ◌∙◌, arith, ◌&&◌}
+use Rattle.std.proofs.Common.{◌≡◌, ℕ, suc, ◌+◌, Bool, true, false, cond, List, [], ◌∷◌, ◌++◌, length, Option, None, Some, Ok, refl, sym, ap, subst, ◌∙◌, arith}
 use Rattle.std.specs.Prelude.{not, slice_get}
 use Rattle.std.specs.Option.{option_map, option_and_then}
 use Rattle.std.specs.Int.{w16, w32}
 use Rattle.std.proofs.lemmas.Bool.{eqb-true}
-use Rattle.byte_format.specs.Format.{Read, ◌>>=◌, number_at, times}
+use Rattle.byte_format.specs.Format.{Read, number_at, times}
 use Rattle.shape_base.specs.declared.definition.Column.{Column}
 use Rattle.shape_base.specs.Tables.{place_of, same_text}
 use Rattle.shape_base.proofs.Tests.{Decides-same_text}
 use Rattle.column_names.specs.Names.{has_name_twice}
 use Rattle.script.specs.Texts.{text_at}
 use Rattle.script.specs.Rows.{columns_at}
-use Rattle.script.specs.Tables.{places_at, placed_at, picked, before, is_key, with_key, declared}
-use Rattle.script.specs.Records.{all_of, table_in}
+use Rattle.script.specs.Tables.{places_at, placed_at, picked, before, is_key, declared}
+use Rattle.script.specs.Records.{table_in}
 use Rattle.script.specs.declared.table.Declaration.{Declaration}
 use Rattle.script.specs.declared.table.Placed.{Placed}
 use Rattle.script.specs.declared.record.Record.TheVariants.{Table}
-use Rattle.script_writing.specs.Parts.{Spelling, ◌&◌, only_if, int16, int32, text, all, short_list, column}
+use Rattle.script_writing.specs.Parts.{Spelling, ◌&◌, int16, int32, text, all, short_list, column}
 use Rattle.script_writing.specs.Tables.{has_type, placed, key_column, key_places, is_declared, table}
 use Rattle.script_writing.proofs.Reading.{both, IsRead, on, then, last, whole, int16_read, int32_read, text_read, columns_read, times_cons, times_nil, all_bytes}
 

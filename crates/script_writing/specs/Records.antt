@@ -1,5 +1,5 @@
 -- The records of a script as bytes.
-use Rattle.std.specs.Prelude.{ℕ, Bool, true, false, ◌&&◌, ◌^◌, if◌then◌else◌, List, [], ◌∷◌, length, nat_lt}
+use Rattle.std.specs.Prelude.{ℕ, Bool, ◌&&◌, ◌^◌, if◌then◌else◌, List, [], ◌∷◌, length, nat_lt}
 use Rattle.core_events.specs.declared.event.Event.{Event}
 use Rattle.core_events.specs.declared.event.Event.TheVariants as events
 use Rattle.pg_dialogue.specs.declared.login.SnapHead.{SnapHead}

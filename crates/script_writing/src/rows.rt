@@ -3,7 +3,9 @@ ghost use Rattle.script_writing.specs.Outcomes.{Puts};
 ghost use Rattle.script_writing.specs.Parts.{column, value, row, rows, short_list};
 
 use crate::fault::WriteError;
-use crate::parts::{Part, put_int32, put_long_list, put_long_text, put_raw, put_short_list, put_text};
+use crate::parts::{
+    Part, put_int32, put_long_list, put_long_text, put_raw, put_short_list, put_text,
+};
 use shape_base::{Column, Columns, Row, Rows, Value};
 
 impl Part for Column {

@@ -59,7 +59,11 @@ fn is_declared(alloc: Global, names: &ColumnNames, key: &Columns) -> Result<bool
 }
 
 /// A served table and its first definition.
-pub fn put_table(alloc: Global, out: &mut Vec<u8>, declaration: &Declaration) -> Result<(), WriteError>
+pub fn put_table(
+    alloc: Global,
+    out: &mut Vec<u8>,
+    declaration: &Declaration,
+) -> Result<(), WriteError>
     ensures { Puts result out.old.items out.new.items (table declaration.now) }
 {
     let names = ColumnNames::new(alloc, &declaration.columns)?;
