@@ -30,16 +30,16 @@ use Rattle.script_writing.proofs.Tables.{table_read}
 
 -- ---- snapshots and rows at the start
 
-abbrev on_columns : ℕ → List ℕ → ℕ → List Column → List ℕ → Read Event
+abbrev pub on_columns : ℕ → List ℕ → ℕ → List Column → List ℕ → Read Event
 on_columns exchange vis oid columns = on rows_at (λ table bytes. Ok (events.Snapshot exchange (record { vis = vis; oid = oid; columns = columns }) table, bytes))
 
-abbrev on_oid : ℕ → List ℕ → ℕ → List ℕ → Read Event
+abbrev pub on_oid : ℕ → List ℕ → ℕ → List ℕ → Read Event
 on_oid exchange vis oid = on columns_at (on_columns exchange vis oid)
 
-abbrev on_vis : ℕ → List ℕ → List ℕ → Read Event
+abbrev pub on_vis : ℕ → List ℕ → List ℕ → Read Event
 on_vis exchange vis = on (number_at w32) (on_oid exchange vis)
 
-abbrev on_exchange : ℕ → List ℕ → Read Event
+abbrev pub on_exchange : ℕ → List ℕ → Read Event
 on_exchange exchange = on text_at (on_vis exchange)
 
 snapshot_read : (exchange : ℕ) (head : SnapHead) (table : List (List Value)) → (snapshot exchange head table).fits ≡ true → all_of (snapshot_at (snapshot exchange head table).bytes) ≡ Some (events.Snapshot exchange head table)
@@ -56,7 +56,7 @@ snapshot_read exchange head table h =
     let from_exchange = then (number_at w32) on_exchange (int32 exchange) (text head.vis & int32 head.oid & short_list column head.columns & rows table) exchange z (int32_read exchange a.0) from_vis in
     whole snapshot_at (snapshot exchange head table) z from_exchange
 
-abbrev on_table : ℕ → List ℕ → Read StartRows
+abbrev pub on_table : ℕ → List ℕ → Read StartRows
 on_table table = on rows_at (λ rows bytes. Ok (record { table = table; rows = rows }, bytes))
 
 start_read : (s : StartRows) → (start s).fits ≡ true → all_of (start_at (start s).bytes) ≡ Some s
@@ -74,7 +74,7 @@ number_read n h = whole (number_at w32) (int32 n) n (int32_read n h)
 long_read : (n : ℕ) → (int64 n).fits ≡ true → long_in (int64 n).bytes ≡ Some n
 long_read n h = whole (number_at w64) (int64 n) n (int64_read n h)
 
-abbrev on_client : ℕ → List ℕ → Read (ℕ × ℕ)
+abbrev pub on_client : ℕ → List ℕ → Read (ℕ × ℕ)
 on_client client = on (number_at w32) (λ exchange bytes. Ok ((client, exchange), bytes))
 
 pair_read : (client exchange : ℕ) → (pair client exchange).fits ≡ true → all_of (pair_at (pair client exchange).bytes) ≡ Some (client, exchange)
@@ -83,7 +83,7 @@ pair_read client exchange h =
     let second = last (number_at w32) (λ (n : ℕ). (client, n)) (int32 exchange) exchange (int32_read exchange a.1) in
     whole pair_at (pair client exchange) (client, exchange) (then (number_at w32) on_client (int32 client) (int32 exchange) client (client, exchange) (int32_read client a.0) second)
 
-abbrev on_ended : ℕ → List ℕ → Read (ℕ × ℕ)
+abbrev pub on_ended : ℕ → List ℕ → Read (ℕ × ℕ)
 on_ended exchange = on byte_at (λ b bytes. Ok ((exchange, b), bytes))
 
 end_numbers : (exchange : ℕ) (failed : Bool) → (end_of exchange failed).fits ≡ true → all_of (end_at (end_of exchange failed).bytes) ≡ Some (exchange, how failed)

@@ -111,7 +111,7 @@ long_list_read read f p xs h =
     let e = both (int32 (length xs)).fits (all f xs).fits h in
     then (number_at w32) (times read) (int32 (length xs)) (all f xs) (length xs) xs (int32_read (length xs) e.0) (all_read read f p xs e.1)
 
-abbrev column_on : List ℕ → List ℕ → Read Column
+abbrev pub column_on : List ℕ → List ℕ → Read Column
 column_on name = on (number_at w32) (λ (oid : ℕ) bytes. Ok (record { name = name; oid = oid }, bytes))
 
 pub column_read : AreRead column_at column

@@ -91,19 +91,19 @@ keys_read columns (k ∷ ks) h =
       picks = ap (λ (o : Option Column). before o (picked columns others.places)) one.picks ∙ ap (before (Some k)) others.picks;
     }
 
-abbrev with_places : List ℕ → List ℕ → ℕ → List Column → List ℕ → Placed
+abbrev pub with_places : List ℕ → List ℕ → ℕ → List Column → List ℕ → Placed
 with_places ns name oid columns places = record { ns = ns; name = name; oid = oid; columns = columns; key = places }
 
-abbrev on_columns : List ℕ → List ℕ → ℕ → List Column → List ℕ → Read Placed
+abbrev pub on_columns : List ℕ → List ℕ → ℕ → List Column → List ℕ → Read Placed
 on_columns ns name oid columns = on places_at (λ places bytes. Ok (with_places ns name oid columns places, bytes))
 
-abbrev on_oid : List ℕ → List ℕ → ℕ → List ℕ → Read Placed
+abbrev pub on_oid : List ℕ → List ℕ → ℕ → List ℕ → Read Placed
 on_oid ns name oid = on columns_at (on_columns ns name oid)
 
-abbrev on_name : List ℕ → List ℕ → List ℕ → Read Placed
+abbrev pub on_name : List ℕ → List ℕ → List ℕ → Read Placed
 on_name ns name = on (number_at w32) (on_oid ns name)
 
-abbrev on_namespace : List ℕ → List ℕ → Read Placed
+abbrev pub on_namespace : List ℕ → List ℕ → Read Placed
 on_namespace ns = on text_at (on_name ns)
 
 is_false : (b : Bool) → not b ≡ true → b ≡ false

@@ -11,3 +11,7 @@ passes bytes h = is_utf8-from_IsUtf8 bytes h
 pub is_read : (bytes : List ℕ) → is_text bytes ≡ true → is_utf8 bytes ≡ true
 unfolding is_text
 is_read bytes h = h
+
+pub is_passed : (bytes : List ℕ) → is_utf8 bytes ≡ true → is_text bytes ≡ true
+unfolding is_text
+is_passed bytes h = h

@@ -1,8 +1,8 @@
 -- What is written is read back, by the definitions of those who read scripts.
-use Rattle.std.specs.Prelude.{◌≡◌, ℕ, true, List, ◌++◌, map, Some, Ok}
-use Rattle.std.specs.List.{flat_map, list_all}
+use Rattle.std.specs.Prelude.{◌≡◌, ℕ, ◌<◌, ◌^◌, true, List, ◌++◌, length, map, Some, Ok}
+use Rattle.std.specs.List.{flat_map, list_all, AllByRecursion}
 use Rattle.script.specs.declared.record.Record.{Record}
-use Rattle.script.specs.Records.{record_of}
+use Rattle.script.specs.Records.{Item, record_of}
 use Rattle.script.specs.Items.{item_at, items_of}
 use Rattle.script_writing.specs.Records.{record_spelling, item_of}
 
@@ -17,3 +17,17 @@ RecordsAreReadBack = (r : Record) → (record_spelling r).fits ≡ true → IsRe
 -- A script of records that fit, one after the other, is read as these records.
 abbrev pub ScriptsAreReadBack : Type 0
 ScriptsAreReadBack = (rs : List Record) → list_all (λ (r : Record). (record_spelling r).fits) rs ≡ true → items_of (flat_map (λ (r : Record). (record_spelling r).bytes) rs) ≡ map item_of rs
+
+-- an item of bytes, whose length has room
+pub record IsItem (item : Item) : Type 0 where
+  pub bytes : AllByRecursion (λ b. b < 256) item.payload
+  pub room : length item.payload < 2 ^ 32
+
+-- it is the one item that is written of this record, which fits
+pub record IsOf (item : Item) (r : Record) : Type 0 where
+  pub is : item ≡ item_of r
+  pub fits : (record_spelling r).fits ≡ true
+
+-- Each item that asks for a record is the one that is written of it. So what does not fit is asked for by no item.
+abbrev pub ItemsAreWritten : Type 0
+ItemsAreWritten = (item : Item) (r : Record) → IsItem item → record_of item ≡ Ok r → IsOf item r

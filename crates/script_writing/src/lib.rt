@@ -11,5 +11,5 @@ mod table;
 
 pub use events::write_event;
 pub use fault::WriteError;
-pub use laws::{records_are_read_back, scripts_are_read_back};
+pub use laws::{items_are_written, records_are_read_back, scripts_are_read_back};
 pub use records::write_record;
