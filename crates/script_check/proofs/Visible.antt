@@ -8,7 +8,9 @@ use Rattle.shape_base.specs.declared.change.Tx.{Tx}
 use Rattle.shape_base.specs.declared.history.Step.{Step}
 use Rattle.shape_base.specs.declared.history.Step.TheVariants.{Commit, Define}
 use Rattle.shape_base.specs.declared.history.History.{History}
-use Rattle.shape_base.specs.Tables.{commits_of}
+use Rattle.shape_base.specs.declared.definition.TableDef.{TableDef}
+use Rattle.shape_base.specs.Tables.{commits_of, def_after, same_def}
+use Rattle.shape_base.proofs.Lemmas.{Decides-same_def}
 use Rattle.shape_base.specs.Snapshot.{IsHonest, IsShownRightly, commit_at, count_at, definition_in}
 use Rattle.shape_base.specs.Visibility.{Visibility, is_visible}
 use Rattle.script_check.specs.declared.snapshot.Snapshot as raw
@@ -83,7 +85,17 @@ defined_then : (h : History) (s : raw.Snapshot) (c k : ℕ) → IsPrefixShown s.
 defined_then h s c k p a = record { there = a.there; commits = one_count s.visibility (xids_of h.steps) (count_at h k) c a.shown p; definition = a.taken.definition }
 
 pub refused_is_dishonest : DishonestIsRefused
-refused_is_dishonest h s errors.OutOfMemory k no d a = absurd (no refl)
-refused_is_dishonest h s (errors.OutOfTurn commit) k no d a = not_out_of_turn s.visibility (xids_of h.steps) commit (count_at h k) d a.shown
-refused_is_dishonest h s errors.OtherDefinition k no d a = d.other k (defined_then h s d.count k d.shown a)
-refused_is_dishonest h s errors.OtherRows k no d a = d.other k (defined_then h s d.count k d.shown a) a.taken.rows
+refused_is_dishonest h s errors.OutOfMemory k ample d a = absurd (ample refl)
+refused_is_dishonest h s (errors.OutOfTurn commit) k ample d a = not_out_of_turn s.visibility (xids_of h.steps) commit (count_at h k) d a.shown
+refused_is_dishonest h s errors.OtherDefinition k ample d a = d.other k (defined_then h s d.count k d.shown a)
+refused_is_dishonest h s errors.OtherRows k ample d a = d.other k (defined_then h s d.count k d.shown a) a.taken.rows
+
+pub defined : (h : History) (d e : TableDef) (c k : ℕ) → k ≤ length h.steps → count_at h k ≡ c → def_after h d.table k ≡ Some e → same_def e d ≡ true → IsDefinedAt h d c k
+defined h d e c k le count is same = record { there = le; commits = count; definition = is ∙ ap Some ((Decides-same_def e d).0 same) }
+
+pub not_defined : (h : History) (d e : TableDef) (c k : ℕ) → def_after h d.table k ≡ Some e → same_def e d ≡ false → IsDefinedAt h d c k → ⊥
+not_defined h d e c k is differs a = let one : Some e ≡ Some d = sym is ∙ a.definition in let same : e ≡ d = cc in let yes : same_def e d ≡ true = (Decides-same_def e d).1 same in cc
+
+-- what is refused by a cause is honest for no step
+pub not_honest : (h : History) (s : raw.Snapshot) (e : SnapshotError) → (e ≡ errors.OutOfMemory → ⊥) → IsDishonest h s e → (k : ℕ) × IsHonestAt h s k → ⊥
+not_honest h s e ample d a = refused_is_dishonest h s e a.0 ample d a.1

@@ -44,7 +44,10 @@ fn is_defined_at(history: &History, definition: &TableDef, count: u64, step: u64
     if count_at(history, step) != count {
         return false;
     }
-    are_same_defs(def_after(history, definition.table, step), definition)
+    if !are_same_defs(def_after(history, definition.table, step), definition) {
+        return false;
+    }
+    true
 }
 
 /// The first step, after so many commits, at which the table had this definition.
@@ -52,7 +55,8 @@ fn first_defined(history: &History, definition: &TableDef, count: u64) -> Option
     requires { definition.now.table < length history.now.defs }
     ensures { MatchOption result ((k : ℕ) → IsDefinedAt history.now definition.now count k → ⊥) (IsDefinedAt history.now definition.now count) }
 {
-    for step in 0..history.steps.len() + 1 {
+    let steps = history.steps.as_slice().len() as u64;
+    for step in 0..steps + 1 {
         if is_defined_at(history, definition, count, step) {
             return Some(step);
         }
@@ -93,7 +97,8 @@ fn first_taken(
     ensures { IfOk result (λ found. MatchOption found ((k : ℕ) → IsDefinedAt history.now snapshot.now.definition count k → IsPermutation (Tables.table_after history.now snapshot.now.definition.table k) snapshot.now.rows → ⊥)
         (λ k. IsDefinedAt history.now snapshot.now.definition count k × IsPermutation (Tables.table_after history.now snapshot.now.definition.table k) snapshot.now.rows)) }
 {
-    for step in 0..history.steps.len() + 1 {
+    let steps = history.steps.as_slice().len() as u64;
+    for step in 0..steps + 1 {
         if is_taken_at(alloc, history, snapshot, count, step)? {
             return Ok(Some(step));
         }

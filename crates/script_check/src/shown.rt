@@ -1,5 +1,5 @@
 //! Which commits of a history a snapshot shows.
-ghost use Rattle.std.specs.Prelude.{◌≡◌, ◌<◌, ◌≤◌, ◌+◌, ℕ, length, map, true, false, IfOk, MatchOption, MatchResult, take};
+ghost use Rattle.std.specs.Prelude.{◌≡◌, ◌<◌, ◌≤◌, ◌+◌, ◌∷◌, [], ℕ, length, map, true, false, IfOk, MatchOption, MatchResult, take};
 ghost use Rattle.shape_base.specs.Tables.{commits_of};
 ghost use Rattle.script_check.specs.Honest.{xids_of, shows, IsPrefixShown, IsOutOfTurn};
 ghost use Rattle.shape_base.specs.Snapshot as base;
@@ -22,6 +22,17 @@ pub fn xids_of(alloc: Global, steps: &Steps) -> Result<Vec<u32>, OutOfMemory>
     Ok(xids)
 }
 
+/// 1 for a commit, 0 for a definition.
+fn commits_in(step: &Step) -> u64
+    ensures is { result ≡ length (commits_of (step.now ∷ [])) }
+    ensures bound { result ≤ 1 }
+{
+    match step {
+        Step::Commit(_) => 1,
+        Step::Define { .. } => 0,
+    }
+}
+
 /// How many of the first `steps` steps are commits.
 pub fn count_at(history: &History, steps: u64) -> u64
     requires { steps ≤ length history.now.steps }
@@ -29,10 +40,7 @@ pub fn count_at(history: &History, steps: u64) -> u64
 {
     let mut count = 0;
     for place in 0..steps {
-        match history.steps.at(place) {
-            Step::Commit(_) => count += 1,
-            Step::Define { .. } => {}
-        }
+        count += commits_in(history.steps.at(place));
     }
     count
 }
