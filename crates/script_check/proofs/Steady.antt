@@ -1,5 +1,5 @@
 -- Definitions that stay.
-use Rattle.std.proofs.Common.{◌≡◌, ℕ, Bool, true, false, List, [], ◌∷◌, take, refl, sym, ◌∙◌, ap, Option, None, Some, ◌==◌, ◌&&◌}
+use Rattle.std.proofs.Common.{◌≡◌, ℕ, Bool, true, false, List, [], ◌∷◌, take, refl, sym, ◌∙◌, ap, Option, None, Some, ◌==◌}
 use Rattle.std.specs.Bool.{if◌then◌else◌}
 use Rattle.std.specs.List.{list_all, slice_get}
 use Rattle.std.specs.Option.{option_map}
@@ -8,8 +8,7 @@ use Rattle.std.proofs.lemmas.Bool.Decides.{Decides-eqb}
 use Rattle.shape_base.specs.declared.definition.TableDef.{TableDef}
 use Rattle.shape_base.specs.declared.history.Step.{Step}
 use Rattle.shape_base.specs.declared.history.Step.TheVariants.{Commit, Define}
-use Rattle.shape_base.specs.declared.history.History.{History}
-use Rattle.shape_base.specs.Tables.{def_step, def_steps}
+use Rattle.shape_base.specs.Tables.{def_steps}
 use Rattle.shape_base.proofs.Lemmas.{Decides-same_def}
 use Rattle.script_check.specs.Definitions.{keeps, is_declared, is_same}
 use Rattle.script_check.specs.Laws.{KeptIsDeclared}

@@ -1,9 +1,9 @@
 -- Which transactions are visible, place by place.
-use Rattle.std.proofs.Common.{◌≡◌, ℕ, zero, suc, ◌+◌, ◌<◌, ◌≤◌, ◌++◌, ◌∷◌, [], Bool, true, false, List, length, map, take, drop, get_or, refl, sym, ◌∙◌, ap, subst, arith, Option, None, Some, IfSome, ◌⊎◌, ⊎_elim}
-use Rattle.std.specs.Prelude.{nat_le, nat_lt, slice_get, slice_index_or}
+use Rattle.std.proofs.Common.{◌≡◌, ℕ, zero, suc, ◌+◌, ◌<◌, ◌≤◌, ◌++◌, ◌∷◌, [], true, false, List, length, map, take, get_or, refl, sym, ◌∙◌, ap, subst, arith, Option, None, Some, IfSome, ◌⊎◌, ⊎_elim}
+use Rattle.std.specs.Prelude.{nat_le, slice_get, slice_index_or}
 use Rattle.std.proofs.lemmas.Bool.{cases_lt, lt-ltb, le-ltb}
 use Rattle.std.proofs.Math.Nat.{eq-or-lt_of_le}
-use Rattle.std.proofs.lemmas.List.{take_more, length-append, length-take}
+use Rattle.std.proofs.lemmas.List.{take_more, length-append}
 use Rattle.shape_base.specs.declared.change.Tx.{Tx}
 use Rattle.shape_base.specs.declared.history.Step.{Step}
 use Rattle.shape_base.specs.declared.history.Step.TheVariants.{Commit, Define}
@@ -11,14 +11,14 @@ use Rattle.shape_base.specs.declared.history.History.{History}
 use Rattle.shape_base.specs.declared.definition.TableDef.{TableDef}
 use Rattle.shape_base.specs.Tables.{commits_of, def_after, same_def}
 use Rattle.shape_base.proofs.Lemmas.{Decides-same_def}
-use Rattle.shape_base.specs.Snapshot.{IsHonest, IsShownRightly, commit_at, count_at, definition_in}
+use Rattle.shape_base.specs.Snapshot.{IsShownRightly, count_at}
 use Rattle.shape_base.specs.Visibility.{Visibility, is_visible}
 use Rattle.script_check.specs.declared.snapshot.Snapshot as raw
 use Rattle.script_check.specs.declared.honesty.SnapshotError.TheVariants as errors
 use Rattle.script_check.specs.declared.honesty.SnapshotError.{SnapshotError}
-use Rattle.script_check.specs.Honest.{xids_of, shows, IsPrefixShown, IsOutOfTurn, IsHonestAt, IsDefinedAt, IsOtherDefinition, HasOtherRows}
+use Rattle.script_check.specs.Honest.{xids_of, shows, IsPrefixShown, IsOutOfTurn, IsHonestAt, IsDefinedAt}
 use Rattle.script_check.specs.Causes.{IsDishonest}
-use Rattle.script_check.specs.Laws.{HonestIsHonest, DishonestIsRefused, seen}
+use Rattle.script_check.specs.Laws.{HonestIsHonest, DishonestIsRefused}
 
 -- what holds from one place up to another, and there, holds up to the next
 pub up_to : {P : ℕ → Type 0} (low n : ℕ) → ((i : ℕ) → low ≤ i → i < n → P i) → P n → (i : ℕ) → low ≤ i → i < n + 1 → P i

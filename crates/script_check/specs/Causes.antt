@@ -1,5 +1,4 @@
 -- Why a snapshot is refused, and a premise.
-use Rattle.std.specs.Prelude.{ℕ}
 use Rattle.shape_base.specs.declared.history.History.{History}
 use Rattle.script_check.specs.declared.snapshot.Snapshot as raw
 use Rattle.script_check.specs.declared.honesty.SnapshotError.{SnapshotError}

@@ -6,7 +6,7 @@ use Rattle.shape_base.specs.declared.change.Change.{Change}
 use Rattle.shape_base.specs.declared.history.Step.{Step}
 use Rattle.shape_base.specs.declared.history.Step.TheVariants.{Commit, Define}
 use Rattle.shape_base.specs.declared.history.History.{History}
-use Rattle.shape_base.specs.Tables.{same_def, def_after}
+use Rattle.shape_base.specs.Tables.{same_def}
 
 -- the definition is equal to one that is there
 abbrev pub is_same : Option TableDef → TableDef → Bool

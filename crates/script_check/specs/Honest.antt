@@ -1,11 +1,11 @@
 -- When a snapshot is honest for a history whose every commit is known, and why it is not.
-use Rattle.std.specs.Prelude.{◌≡◌, ◌==◌, ℕ, ◌<◌, ◌≤◌, nat_lt, Bool, true, false, ◌&&◌, List, map, length, slice_index_or, Option, None, Some}
+use Rattle.std.specs.Prelude.{◌≡◌, ℕ, ◌<◌, ◌≤◌, Bool, true, false, List, map, length, slice_index_or, Some}
 use Rattle.std.specs.List.Sorted.{IsPermutation}
 use Rattle.shape_base.specs.declared.change.Tx.{Tx}
 use Rattle.shape_base.specs.declared.history.Step.{Step}
 use Rattle.shape_base.specs.declared.definition.TableDef.{TableDef}
 use Rattle.shape_base.specs.declared.history.History.{History}
-use Rattle.shape_base.specs.Tables.{Table, commits_of, def_after, table_after, same_def}
+use Rattle.shape_base.specs.Tables.{commits_of, def_after, table_after}
 use Rattle.shape_base.specs.Snapshot.{IsTakenAt, count_at}
 use Rattle.shape_base.specs.Visibility.{Visibility, is_visible}
 use Rattle.script_check.specs.declared.snapshot.Snapshot as raw

@@ -1,9 +1,8 @@
 -- Laws of checks.
-use Rattle.std.specs.Prelude.{◌≡◌, ℕ, ◌≤◌, IfSome, slice_get}
-use Rattle.shape_base.specs.declared.definition.TableDef.{TableDef}
+use Rattle.std.specs.Prelude.{◌≡◌, ℕ, slice_get}
 use Rattle.shape_base.specs.declared.history.History.{History}
 use Rattle.shape_base.specs.Tables.{def_after}
-use Rattle.shape_base.specs.Snapshot.{Snapshot, IsHonest, definition_in}
+use Rattle.shape_base.specs.Snapshot.{Snapshot, IsHonest}
 use Rattle.script_check.specs.declared.snapshot.Snapshot as raw
 use Rattle.script_check.specs.declared.honesty.SnapshotError.{SnapshotError}
 use Rattle.script_check.specs.declared.honesty.SnapshotError.TheVariants as errors

@@ -1,4 +1,4 @@
-use Rattle.std.proofs.Common.{◌≡◌, ◌<◌, length, arith}
+use Rattle.std.proofs.Common.{◌<◌, length, arith}
 use Rattle.script_check.proofs.Visible.{count_passed}
 use Rattle.script_check.proofs.shown.count_at.Goals as goal
 
