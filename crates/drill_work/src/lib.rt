@@ -1,0 +1,9 @@
+//! The generated work of a drill: from a number, the commits of one table and the steps of four clients, over 2,000 rounds.
+#![tactic(auto)]
+
+mod chance;
+mod change;
+mod plain;
+
+pub use chance::Chance;
+pub use plain::{Item, Items, Letter, Plain, Statement};
