@@ -64,3 +64,24 @@ altered x t = altered_at (drawn (length t.rows) x) (after x) t
 -- A row is inserted where the table is empty, and else in one of three cases.
 unfoldable pub change : ℕ → Plain → Change
 change x t = if length t.rows == 0 then inserted x t else if drawn 3 x == 0 then inserted (after x) t else altered (after x) t
+
+-- several changes: what is done, the table then, and the state of the generator
+pub record AllChanges : Type 0 where
+  pub statements : List Statement
+  pub plain : Plain
+  pub state : ℕ
+
+abbrev pub all_made : List Statement → Plain → ℕ → AllChanges
+all_made ss t x = record { statements = ss; plain = t; state = x }
+
+-- a change before others
+abbrev pub before : Statement → AllChanges → AllChanges
+before s others = all_made (s ∷ others.statements) others.plain others.state
+
+abbrev pub then_others : (ℕ → Plain → AllChanges) → Change → AllChanges
+then_others others c = before c.statement (others c.state c.plain)
+
+-- so many changes, one after the other
+unfoldable pub changes : ℕ → ℕ → Plain → AllChanges
+changes zero x t = all_made [] t x
+changes (suc n) x t = then_others (changes n) (change x t)

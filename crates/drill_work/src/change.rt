@@ -1,10 +1,11 @@
 //! One change.
-ghost use Rattle.std.specs.Prelude.{◌≡◌, ◌<◌, length, IfOk, slice_index_or};
-ghost use Rattle.drill_work.specs.Changes.{letter_of, made, inserted, no_item, altered, change};
+ghost use Rattle.std.specs.Prelude.{◌≡◌, ◌<◌, ◌≤◌, ◌+◌, length, IfOk, slice_index_or};
+ghost use Rattle.drill_work.specs.Changes.{letter_of, made, inserted, no_item, altered, change, all_made, changes};
 
 use crate::chance::Chance;
-use crate::plain::{Item, Items, Letter, Plain, Statement};
-use shape_base::OutOfMemory;
+use crate::plain::{Item, Items, Letter, Plain, Statement, Statements};
+use shape_base::{OutOfMemory, Seq};
+use std::alloc::Global;
 
 fn letter_of(number: u64) -> Letter
     ensures { result ≡ letter_of number }
@@ -26,7 +27,8 @@ fn item_at(rows: &Items, place: u64) -> Item
 /// Inserts a row.
 fn insert(chance: &mut Chance, plain: &mut Plain) -> Result<Statement, OutOfMemory>
     requires { plain.old.fresh < 4294967296 }
-    ensures { IfOk result (λ statement. inserted chance.old.state plain.old ≡ made statement plain.new chance.new.state) }
+    ensures makes { IfOk result (λ statement. inserted chance.old.state plain.old ≡ made statement plain.new chance.new.state) }
+    ensures ids { plain.new.fresh ≤ plain.old.fresh + 1 }
 {
     let n = chance.next(100);
     let letter = letter_of(chance.next(2));
@@ -45,7 +47,8 @@ fn insert(chance: &mut Chance, plain: &mut Plain) -> Result<Statement, OutOfMemo
 fn alter(chance: &mut Chance, plain: &mut Plain) -> Statement
     requires some { 0 < length plain.old.rows }
     requires bound { plain.old.fresh < 4294967296 }
-    ensures { altered chance.old.state plain.old ≡ made result plain.new chance.new.state }
+    ensures makes { altered chance.old.state plain.old ≡ made result plain.new chance.new.state }
+    ensures ids { plain.new.fresh ≤ plain.old.fresh + 1 }
 {
     let place = chance.next(plain.rows.len());
     let old = item_at(&plain.rows, place);
@@ -72,9 +75,10 @@ fn alter(chance: &mut Chance, plain: &mut Plain) -> Statement
 
 /// Makes one change.
 #[tactic(auto, unfolding(crate::specs::Changes::change))]
-pub fn change(chance: &mut Chance, plain: &mut Plain) -> Result<Statement, OutOfMemory>
+fn change(chance: &mut Chance, plain: &mut Plain) -> Result<Statement, OutOfMemory>
     requires { plain.old.fresh < 4294967296 }
-    ensures { IfOk result (λ statement. change chance.old.state plain.old ≡ made statement plain.new chance.new.state) }
+    ensures makes { IfOk result (λ statement. change chance.old.state plain.old ≡ made statement plain.new chance.new.state) }
+    ensures ids { plain.new.fresh ≤ plain.old.fresh + 1 }
 {
     if plain.rows.len() == 0 {
         return insert(chance, plain);
@@ -83,4 +87,23 @@ pub fn change(chance: &mut Chance, plain: &mut Plain) -> Result<Statement, OutOf
         return insert(chance, plain);
     }
     Ok(alter(chance, plain))
+}
+
+/// Makes so many changes, one after the other.
+pub fn changes(
+    alloc: Global,
+    chance: &mut Chance,
+    plain: &mut Plain,
+    count: u64,
+) -> Result<Statements, OutOfMemory>
+    requires { plain.old.fresh + count ≤ 4294967296 }
+    ensures makes { IfOk result (λ statements. changes count chance.old.state plain.old ≡ all_made statements plain.new chance.new.state) }
+    ensures ids { plain.new.fresh ≤ plain.old.fresh + count }
+{
+    let mut statements = Seq::new(alloc);
+    for _ in 0..count {
+        let statement = change(chance, plain)?;
+        statements.push(statement)?;
+    }
+    Ok(statements)
 }

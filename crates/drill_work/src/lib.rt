@@ -3,7 +3,9 @@
 
 mod chance;
 mod change;
+mod drill;
 mod plain;
 
 pub use chance::Chance;
-pub use plain::{Item, Items, Letter, Plain, Statement};
+pub use drill::{Drill, ROUNDS, Turn, Turns, turns};
+pub use plain::{Commit, Commits, Item, Items, Letter, Plain, Statement, Statements};

@@ -34,3 +34,16 @@ pub enum Statement {
     Delete(Item),
     Truncate,
 }
+
+/// Changes, in their order.
+pub type Statements = Seq<Statement>;
+
+/// A commit: its number, from 0, and its changes.
+#[derive(Drop)]
+pub struct Commit {
+    pub number: u16,
+    pub statements: Statements,
+}
+
+/// Commits, in their order.
+pub type Commits = Seq<Commit>;
