@@ -1,3 +1,4 @@
 pub mod Chance
 pub mod Changes
 pub mod Rounds
+pub mod Messages

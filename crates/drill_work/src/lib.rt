@@ -4,8 +4,11 @@
 mod chance;
 mod change;
 mod drill;
+mod fields;
+mod messages;
 mod plain;
 
 pub use chance::Chance;
 pub use drill::{Drill, ROUNDS, Turn, Turns, turns};
+pub use messages::{Events, TABLE_OID, streamed_events};
 pub use plain::{Commit, Commits, Item, Items, Letter, Plain, Statement, Statements};
