@@ -135,7 +135,8 @@ fn push_commit(alloc: Global, events: &mut Events, commit: &Commit) -> Result<()
         end: 108 + number,
         time,
     };
-    push_message(alloc, events, &end)
+    push_message(alloc, events, &end)?;
+    Ok(())
 }
 
 /// What is streamed of commits, in their order.
