@@ -117,25 +117,39 @@ fn push_statements(
     Ok(())
 }
 
+/// Puts the beginning of a commit last.
+fn push_begin(alloc: Global, events: &mut Events, number: u16) -> Result<(), OutOfMemory>
+    ensures { OnOk result (events.new ≡ events.old ++ event_of (begin_of number) ∷ []) }
+{
+    let begin = Message::Begin {
+        lsn: 100 + u64::from(number),
+        time: 0,
+        xid: 1_000 + u32::from(number),
+    };
+    push_message(alloc, events, &begin)
+}
+
+/// Puts the end of a commit last.
+fn push_end(alloc: Global, events: &mut Events, number: u16) -> Result<(), OutOfMemory>
+    ensures { OnOk result (events.new ≡ events.old ++ event_of (commit_of number) ∷ []) }
+{
+    let end = Message::Commit {
+        flags: 0,
+        lsn: 100 + u64::from(number),
+        end: 108 + u64::from(number),
+        time: 0,
+    };
+    push_message(alloc, events, &end)
+}
+
 /// Puts the messages of a commit last.
 fn push_commit(alloc: Global, events: &mut Events, commit: &Commit) -> Result<(), OutOfMemory>
     ensures { OnOk result (events.new ≡ events.old ++ commit_events commit.now) }
 {
-    let number = u64::from(commit.number);
-    let lsn = 100 + number;
-    let xid = 1_000 + u32::from(commit.number);
-    let time = 0;
-    let begin = Message::Begin { lsn, time, xid };
-    push_message(alloc, events, &begin)?;
+    push_begin(alloc, events, commit.number)?;
     push_relation(alloc, events, commit.number)?;
     push_statements(alloc, events, &commit.statements)?;
-    let end = Message::Commit {
-        flags: 0,
-        lsn,
-        end: 108 + number,
-        time,
-    };
-    push_message(alloc, events, &end)?;
+    push_end(alloc, events, commit.number)?;
     Ok(())
 }
 
