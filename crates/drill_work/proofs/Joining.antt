@@ -1,10 +1,8 @@
 -- The messages of a commit, joined.
-use Rattle.std.proofs.Common.{◌≡◌, ℕ, List, [], ◌∷◌, ◌++◌, map, refl, sym, ap, ◌∙◌, append_assoc}
+use Rattle.std.proofs.Common.{◌≡◌, ℕ, List, [], ◌∷◌, ◌++◌, map, sym, ap, ◌∙◌, append_assoc}
 use Rattle.std.proofs.lemmas.List.{map-append}
-use Rattle.pgout.specs.declared.message.Message.{Message}
 use Rattle.core_events.specs.declared.event.Event.{Event}
 use Rattle.drill_work.specs.declared.plain.Statement.{Statement}
-use Rattle.drill_work.specs.declared.plain.Commit.{Commit}
 use Rattle.drill_work.specs.Messages.{event_of, message_of, begin_of, commit_of, relation_before, commit_events}
 
 pub joined : (es fs : List Event) (number : ℕ) (ss : List Statement) → fs ≡ ((((es ++ event_of (begin_of number) ∷ []) ++ map event_of (relation_before number)) ++ map event_of (map message_of ss)) ++ event_of (commit_of number) ∷ []) → fs ≡ es ++ commit_events (record { number = number; statements = ss })

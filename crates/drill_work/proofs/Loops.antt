@@ -1,12 +1,12 @@
 -- What loops have made so far, and what they still make.
-use Rattle.std.proofs.Common.{◌≡◌, ℕ, suc, ◌-◌, ◌+◌, ◌≤◌, ◌<◌, List, [], ◌∷◌, ◌++◌, refl, sym, ap, ◌∙◌, append_assoc, arith}
+use Rattle.std.proofs.Common.{◌≡◌, ℕ, suc, ◌-◌, ◌+◌, ◌≤◌, ◌<◌, List, [], ◌∷◌, ◌++◌, sym, ap, ◌∙◌, append_assoc, arith}
 use Rattle.std.proofs.lemmas.List.{append-nil}
 use Rattle.drill_work.specs.declared.plain.Statement.{Statement}
 use Rattle.drill_work.specs.declared.plain.Plain.{Plain}
 use Rattle.drill_work.specs.declared.drill.Drill.{Drill}
 use Rattle.drill_work.specs.declared.drill.Turn.{Turn}
-use Rattle.drill_work.specs.Changes.{Change, AllChanges, change, changes, all_made, made, then_others}
-use Rattle.drill_work.specs.Rounds.{rounded, Rounded, round, turns, then_turns}
+use Rattle.drill_work.specs.Changes.{AllChanges, change, changes, all_made, made}
+use Rattle.drill_work.specs.Rounds.{rounded, round, turns}
 
 -- changes that were made before, and others
 abbrev pub with_front : List Statement → AllChanges → AllChanges

@@ -5,7 +5,7 @@ use Rattle.drill_work.specs.declared.plain.Letter.{Letter}
 use Rattle.drill_work.specs.declared.plain.Letter.TheVariants.{K, M}
 use Rattle.drill_work.specs.declared.plain.Plain.{Plain}
 use Rattle.drill_work.specs.declared.plain.Statement.{Statement}
-use Rattle.drill_work.specs.declared.plain.Statement.TheVariants.{Insert, Update, Delete, Truncate}
+use Rattle.drill_work.specs.declared.plain.Statement.TheVariants.{Insert, Update, Delete}
 use Rattle.drill_work.specs.Chance.{after, drawn}
 
 -- one change: what is done, the table then, and the state of the generator

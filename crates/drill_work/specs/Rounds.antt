@@ -1,8 +1,6 @@
 -- The rounds of a drill.
-use Rattle.std.specs.Prelude.{◌≡◌, ℕ, zero, suc, ◌+◌, ◌*◌, ◌<◌, ◌≤◌, ◌==◌, nat_lt, if◌then◌else◌, List, [], ◌∷◌, ◌++◌}
-use Rattle.drill_work.specs.declared.chance.Chance.{Chance}
+use Rattle.std.specs.Prelude.{◌≡◌, ℕ, zero, suc, ◌+◌, ◌*◌, ◌≤◌, ◌==◌, nat_lt, if◌then◌else◌, List, [], ◌∷◌, ◌++◌}
 use Rattle.drill_work.specs.declared.plain.Plain.{Plain}
-use Rattle.drill_work.specs.declared.plain.Commit.{Commit}
 use Rattle.drill_work.specs.declared.plain.Statement.{Statement}
 use Rattle.drill_work.specs.declared.plain.Statement.TheVariants.{Truncate}
 use Rattle.drill_work.specs.declared.drill.Drill.{Drill}

@@ -1,4 +1,4 @@
-use Rattle.std.proofs.Common.{◌≡◌, ◌+◌, ◌≤◌, arith}
+use Rattle.std.proofs.Common.{arith}
 use Rattle.drill_work.proofs.Loops.{goes_on, is_done}
 use Rattle.drill_work.specs.Changes.{changes}
 use Rattle.drill_work.proofs.change.changes.Goals as goal

@@ -1,4 +1,4 @@
-use Rattle.std.proofs.Common.{◌≡◌, ◌+◌, ◌≤◌, arith}
+use Rattle.std.proofs.Common.{arith}
 use Rattle.drill_work.proofs.Loops.{turn_more, turns_done}
 use Rattle.drill_work.specs.Rounds.{begun, turns}
 use Rattle.drill_work.proofs.drill.turns.Goals as goal

@@ -1,4 +1,4 @@
-use Rattle.std.proofs.Common.{◌≡◌, ◌-◌, ◌+◌, ◌++◌}
+use Rattle.std.proofs.Common.{◌≡◌, ◌-◌, ◌++◌}
 use Rattle.drill_work.specs.Rounds.{IsSound, begun, turns}
 use Rattle.drill_work.proofs.drill.turns.Given as goal
 

@@ -1,4 +1,4 @@
-use Rattle.std.proofs.Common.{◌≡◌, ◌++◌, ◌∷◌, [], List, ap, ◌∙◌, map}
+use Rattle.std.proofs.Common.{◌++◌, ◌∷◌, [], List, ap, ◌∙◌, map}
 use Rattle.core_events.specs.declared.event.Event.{Event}
 use Rattle.drill_work.specs.Messages.{event_of, message_of, relation_before, commit_of}
 use Rattle.drill_work.proofs.Joining.{joined}
