@@ -2,6 +2,7 @@
 use cases::{bytes_of, put_bytes, put_row};
 use core_events::Event;
 use script::{Declaration, Item, Record, RecordError, StartRows, read_record};
+use script_writing::{WriteError, write_event, write_record};
 use shape_base::{Columns, Octets, OutOfMemory, Rows};
 use std::alloc::Global;
 
@@ -91,19 +92,62 @@ fn put_record(out: &mut String, record: &Record) -> Result<(), OutOfMemory> {
     }
 }
 
-/// What a record of a kind with a payload asks for.
-pub fn record_line(alloc: Global, kind: &str, payload: &str) -> Result<String, OutOfMemory> {
+/// The record of a kind with a payload that a line spells.
+fn item_of(alloc: Global, kind: &str, payload: &str) -> Result<Item, OutOfMemory> {
     let kind = match kind.as_bytes() {
         [kind, ..] => *kind,
         [] => 0,
     };
     let payload = bytes_of(alloc, payload)?;
+    Ok(Item { kind, payload })
+}
+
+fn put_error(out: &mut String, error: RecordError) -> Result<(), OutOfMemory> {
+    match error {
+        RecordError::UnknownKind => out.push_str("unknown_kind")?,
+        RecordError::BadPayload => out.push_str("bad_payload")?,
+        RecordError::OutOfMemory => return Err(OutOfMemory),
+    }
+    Ok(())
+}
+
+/// What a record of a kind with a payload asks for.
+pub fn record_line(alloc: Global, kind: &str, payload: &str) -> Result<String, OutOfMemory> {
+    let item = item_of(alloc, kind, payload)?;
     let mut out = String::new(alloc);
-    match read_record(alloc, Item { kind, payload }) {
+    match read_record(alloc, item) {
         Ok(record) => put_record(&mut out, &record)?,
-        Err(RecordError::UnknownKind) => out.push_str("unknown_kind")?,
-        Err(RecordError::BadPayload) => out.push_str("bad_payload")?,
-        Err(RecordError::OutOfMemory) => return Err(OutOfMemory),
+        Err(error) => put_error(&mut out, error)?,
+    }
+    Ok(out)
+}
+
+fn put_written(out: &mut String, written: Result<Octets, WriteError>) -> Result<(), OutOfMemory> {
+    match written {
+        Ok(bytes) => put_bytes(out, bytes.as_slice()),
+        Err(WriteError::Unwritable) => {
+            out.push_str("unwritable")?;
+            Ok(())
+        }
+        Err(WriteError::OutOfMemory) => Err(OutOfMemory),
+    }
+}
+
+/// The record as it is written again.
+fn written(alloc: Global, record: &Record) -> Result<Octets, WriteError> {
+    match record {
+        Record::Brings(event) => write_event(alloc, event),
+        _ => write_record(alloc, record),
+    }
+}
+
+/// The bytes that are written of what a record of a kind with a payload asks for.
+pub fn again_line(alloc: Global, kind: &str, payload: &str) -> Result<String, OutOfMemory> {
+    let item = item_of(alloc, kind, payload)?;
+    let mut out = String::new(alloc);
+    match read_record(alloc, item) {
+        Ok(record) => put_written(&mut out, written(alloc, &record))?,
+        Err(error) => put_error(&mut out, error)?,
     }
     Ok(out)
 }

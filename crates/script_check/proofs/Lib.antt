@@ -1,0 +1,4 @@
+pub mod Permuting
+pub mod Visible
+pub mod Steady
+pub mod Claiming

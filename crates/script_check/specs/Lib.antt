@@ -1,0 +1,5 @@
+pub mod Honest
+pub mod Causes
+pub mod Definitions
+pub mod Premise
+pub mod Laws

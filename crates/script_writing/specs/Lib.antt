@@ -1,0 +1,5 @@
+pub mod Parts
+pub mod Tables
+pub mod Records
+pub mod Outcomes
+pub mod Laws
