@@ -60,7 +60,7 @@ refuses an_option_twice 2 usage "$script" replay --hold 1 --log 9 --hold 1
 refuses an_unknown_option 2 usage "$script" replay --chunks 4096
 refuses a_chunk_too_small 2 usage "$script" replay --chunk 4095
 refuses a_value_with_a_zero_before_it 2 usage "$script" replay --hold 01
-prints with_options "$wanted" "$replay" replay --hold 1 --chunk 4096 --shapes 1 < "$script"
+prints with_options examples/one_insert.output "$replay" replay --hold 1 --chunk 4096 --shapes 1 < examples/one_insert.script
 
 # Writes: a full device, a closed output, a pipe that nobody reads, a pipe that takes single bytes.
 "$replay" replay < "$script" > /dev/full 2> "$said"
