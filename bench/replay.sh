@@ -1,7 +1,8 @@
 #!/usr/bin/env bash
 # How fast a script is replayed: MB/s of shape_replay beside sha256sum on the same file, in the same run.
-# The file is a script of about 60 MB, made from a seed: one table, many transactions of a few inserts, and one watch at the end, which prints all
-# rows. A script a tenth as large tells whether the time grows with the size; one as large has a client with a clause that selects a tenth of the rows.
+# The file is a script of about 20 MB, made from a seed: one table, many transactions of a few inserts, and one watch at the end, which prints all
+# rows; a larger one would fill the log of its shape, which may have 64 MiB of texts. A script a tenth as large tells whether the time grows with the size; one
+# of 60 MB has a client with a clause that selects a tenth of the rows. Each must print rows at its end.
 # Fails where replay has less than 0.03 of sha256sum's bytes per second, or with the clause less than 0.06; where ten times the script takes more than
 # twelve times the time; or where memory is above 30 bytes per byte of script and 64 MB.
 # Skips where a tool is missing. Wants 300 MB of disk and 2 GB of memory.
@@ -64,18 +65,25 @@ def write(path, size, query):
         out.write(record(b'W', bytes(4)) + record(b'E'))
 
 
-write(sys.argv[1] + '/large', 60_000_000, b'table=items')
-write(sys.argv[1] + '/small', 6_000_000, b'table=items')
+write(sys.argv[1] + '/large', 20_000_000, b'table=items')
+write(sys.argv[1] + '/small', 2_000_000, b'table=items')
 write(sys.argv[1] + '/clause', 60_000_000, b'table=items&where=n+%3C+100')
 PYTHON
 
 [ -x crates/shape_replay/out/shape_replay ] || (cd crates/shape_replay && rt run -- replay < stdin > /dev/null 2>&1) || { echo "replay.sh: shape_replay does not run"; exit 1; }
 program=$PWD/crates/shape_replay/out/shape_replay
 
+# replayed FILE: the seconds of a replay whose last line but one is a row
+replayed() {
+    seconds 3 "$1" "$program" replay && tail -n 2 "$answer" | head -n 1 | grep -q '^"' && return
+    echo "replay.sh: $(basename "$1"): no rows at the end" >&2
+    return 1
+}
+
 hashing=$(seconds 3 "$folder/large" sha256sum) || exit 1
-small=$(seconds 3 "$folder/small" "$program" replay) || exit 1
-clause=$(seconds 3 "$folder/clause" "$program" replay) || exit 1
-large=$(seconds 3 "$folder/large" "$program" replay) || exit 1
+small=$(replayed "$folder/small") || exit 1
+clause=$(replayed "$folder/clause") || exit 1
+large=$(replayed "$folder/large") || exit 1
 tail -1 "$answer"
 peak=$(python3 - "$program" "$folder/large" <<'PYTHON'
 import resource

@@ -1,6 +1,6 @@
 -- What the rounds of a play come to, one for each record.
-use Rattle.std.proofs.Common.{◌≡◌, ℕ, ◌+◌, ◌≤◌, Bool, true, false, ltb, List, [], ◌∷◌, ◌++◌, length, take, drop, Some, None, refl, sym, ap, subst, ◌∙◌, append_assoc, arith}
-use Rattle.std.specs.Prelude.{Result, Ok, Err}
+use Rattle.std.proofs.Common.{◌≡◌, ℕ, Bool, true, false, List, [], ◌∷◌, ◌++◌, length, take, Some, None, refl, sym, ap, subst, ◌∙◌, append_assoc, arith}
+use Rattle.std.specs.Prelude.{Ok, Err}
 use Rattle.std.proofs.lemmas.List.{append-nil, length-append}
 use Rattle.std.proofs.lemmas.Grind.{flat_map-append}
 use Rattle.std.proofs.Math.Seq.{drop-length}
@@ -13,7 +13,7 @@ use Rattle.script.specs.Records.{Item}
 use Rattle.script.specs.Items.{item_at, items_of}
 use Rattle.script.specs.Lines.{out_text, outs_text}
 use Rattle.script.specs.Reading.{Consumes, since}
-use Rattle.script.proofs.Filling.{seen_of, beyond_of, since_step}
+use Rattle.script.proofs.Filling.{seen_of, since_step}
 use Rattle.script_play.specs.declared.playing.Stage.{Stage}
 use Rattle.script_play.specs.declared.stop.Stop.{Stop}
 use Rattle.script_play.specs.declared.stop.Stop.TheVariants as stops
@@ -22,7 +22,7 @@ use Rattle.script_play.specs.Script.{size_of}
 use Rattle.script_play.specs.Played.{Ending, Ended, Refused, TooMany, Unended, IsPlayed, last_line, text_of}
 use Rattle.script_play.specs.Playing.{IsStaged, IsSound, IsNextStage, IsLast, IsEnd, IsCutShort, IsTurn}
 use Rattle.script_play.specs.Replaying.{stop_of_read, answer_for, IsWhole, IsPart, IsReadOff, CameOut}
-use Rattle.script_play.proofs.ItemLists.{no_items, one_item, longer_is}
+use Rattle.script_play.proofs.ItemLists.{no_items, one_item}
 use Rattle.script_play.proofs.Turns.{unended, under_staged}
 
 -- ---- what was written

@@ -8,7 +8,7 @@ use Rattle.script_play.specs.declared.stop.Stop.{Stop}
 use Rattle.script_play.specs.declared.stop.Stop.TheVariants as stops
 use Rattle.script_play.specs.Played.{Ending, text_of}
 use Rattle.script_play.specs.Headline.{Headline}
-use Rattle.script_play.specs.Replaying.{IsWhole, IsPart, IsReadOff, CameOut}
+use Rattle.script_play.specs.Replaying.{IsWhole, IsPart, CameOut}
 use Rattle.shape_replay.specs.Headline.{IsHeadline}
 
 -- where the sink tells, a text was written since the start; or a front of it

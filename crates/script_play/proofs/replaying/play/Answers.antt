@@ -1,4 +1,4 @@
-use Rattle.std.proofs.Common.{◌≡◌, ℕ, List, [], Err, refl, ap, sym, ◌∙◌, arith}
+use Rattle.std.proofs.Common.{ℕ, List, [], Err, refl, ap, sym, ◌∙◌, arith}
 use Rattle.std.proofs.lemmas.Result.{err_from_is_err_and}
 use Rattle.script.specs.declared.reading.ReadStop.{ReadStop}
 use Rattle.script.specs.Items.{items_of}

@@ -1,4 +1,4 @@
-use Rattle.std.proofs.Common.{ℕ, List, Bor, ◌∙◌, sym, ap, ◌++◌, drop}
+use Rattle.std.proofs.Common.{ℕ, List, Bor, ◌∙◌, sym, ap, ◌++◌}
 use Rattle.std.specs.List.{flat_map}
 use Rattle.std.proofs.lemmas.List.{at_drop_more, drop_all}
 use Rattle.shape_replay.proofs.Saying.{said_front, said_whole}
