@@ -1,12 +1,9 @@
-//! Bodies, read. `serde_json` reads the text; what was read is accepted where writing it gives the
-//! same bytes again. So the steps between take what they find and look for nothing else.
-ghost use Rattle.std.specs.Prelude.{◌≡◌, ◌∷◌, List, [], codes, Option, Some, None, IfOk, IsOk, IsErrOf, IsTrue, ◌↔◌, MatchResult, ◌++◌, option_map, option_and_then};
+//! Bodies, read. The tokens of the text are taken in the order in which a body has them; what was read is accepted where its
+//! body is the text. So the steps between take what they find and look for nothing else.
+ghost use Rattle.std.specs.Prelude.{◌≡◌, ◌≤◌, ◌<◌, ◌∷◌, ◌++◌, ◌↔◌, ℕ, List, [], codes, drop, length, true, false, Option, Some, None, IfSome, IfOk, IsOk, IsTrue, MatchResult, option_map};
 ghost use Rattle.std.specs.List.{list_all};
 ghost use Rattle.std.specs.Str.{IsUtf8};
-ghost use Rattle.serde_json.specs.Read.{read};
-ghost use Rattle.serde_json.specs.Data.{Data, string, object};
-ghost use Rattle.serde_json.specs.Find.{get, as_str, as_object};
-ghost use Rattle.serde_json.specs.View.{view, items_view, members_view};
+ghost use Rattle.json.specs.Token.{Token as SpecToken, begin_object, end_object, end_array, key, string};
 ghost use Rattle.shape_base.specs.declared.value.Value.{Value as Word};
 ghost use Rattle.shape_base.specs.declared.entry.Op.{Op};
 ghost use Rattle.shape_base.specs.declared.offset.Offset.{Offset};
@@ -14,15 +11,16 @@ ghost use Rattle.shape_base.specs.declared.entry.Cell.{Cell};
 ghost use Rattle.shape_base.specs.declared.entry.Entry.{Entry};
 ghost use Rattle.shape_base.specs.OffsetText.{offset_text, IsOffset};
 ghost use Rattle.shape_json.specs.declared.control.Control.{Control};
-ghost use Rattle.shape_json.specs.Body.{body_text};
+ghost use Rattle.shape_json.specs.declared.read.Heading.{Heading};
+ghost use Rattle.shape_json.specs.Body.{operation, body_text};
 ghost use Rattle.shape_json.specs.Plain.{is_plain, ArePlain};
-ghost use Rattle.shape_json.specs.Reading.{value_data, cells_data, headers_data, entry_data, items_data, body_data, said_data, Reads, HaveOffsets};
+ghost use Rattle.shape_json.specs.Reading.{value_token, cells_tokens, heading_tokens, entry_tokens, said_tokens, body_tokens, Reads, ReadsThen, HaveOffsets};
 
 use crate::body::write_entries;
 use crate::control::Control;
 use crate::plain::is_plain;
-use serde_json::{Map, Value};
-use shape_base::{Cell, Cells, Entries, Entry, Offset, Op, OutOfMemory, Text, Value as CellValue};
+use json::{Reader, Scratch, Token};
+use shape_base::{Cell, Cells, Entries, Entry, Offset, Op, OutOfMemory, Text, Value};
 use std::alloc::{AllocError, AllocFailed, Global};
 
 /// Why a text is not read as a body.
@@ -66,57 +64,84 @@ impl<T: Drop> From<AllocFailed<T>> for BodyError {
     }
 }
 
-/// The string that is the member of that name.
-fn string_in<'a>(value: &'a Value, name: &str) -> Option<&'a str>
-    ensures { option_map (λ s. s.now) result ≡ option_and_then as_str (get name.now (view value.now)) }
+/// What the headers of an item say: that it is an entry, or a control.
+#[derive(Clone, Copy, Drop)]
+enum Heading {
+    Entry(Op),
+    Control(Control),
+}
+
+/// Passes over so many tokens.
+fn pass(reader: &mut Reader<'_>, count: usize)
+    ensures { reader.new ≡ drop count reader.old }
 {
-    match value.get(name) {
-        Some(member) => member.as_str(),
-        None => None,
+    for _ in 0..count {
+        let _token = reader.next();
     }
 }
 
-/// The members of the object that is the member of that name.
-fn members_in<'a>(value: &'a Value, name: &str) -> Option<&'a Map<String, Value>>
-    ensures { option_map (λ m. members_view m.now.entries) result ≡ option_and_then as_object (get name.now (view value.now)) }
+/// The next token, which is passed over, where it is a string.
+fn next_string<'a>(reader: &mut Reader<'a>) -> Option<&'a str>
+    ensures found { (s : List ℕ) (rest : List SpecToken) → reader.old ≡ string s ∷ rest → (option_map (λ t. t.now) result ≡ Some s) × (reader.new ≡ rest) }
+    ensures passed { length reader.new ≤ length reader.old }
 {
-    match value.get(name) {
-        Some(member) => member.as_object(),
-        None => None,
-    }
-}
-
-/// What the headers say under a name.
-fn header_in<'a>(value: &'a Value, name: &str) -> Option<&'a str>
-    ensures { option_map (λ s. s.now) result ≡ option_and_then (λ headers. option_and_then as_str (get name.now headers)) (get (codes "headers") (view value.now)) }
-{
-    match value.get("headers") {
-        Some(headers) => string_in(headers, name),
-        None => None,
-    }
-}
-
-fn op_in(value: &Value) -> Option<Op>
-    ensures { (op : Op) → get (codes "headers") (view value.now) ≡ Some (headers_data op) → result ≡ Some op }
-{
-    match header_in(value, "operation")? {
-        "insert" => Some(Op::Insert),
-        "update" => Some(Op::Update),
-        "delete" => Some(Op::Delete),
+    match reader.next() {
+        Some(Token::String(text)) => Some(text),
         _ => None,
     }
 }
 
-fn control_in(value: &Value) -> Option<Control>
-    ensures up_to_date { view value.now ≡ said_data (codes "up-to-date") → result ≡ Some Control.UpToDate }
-    ensures must_refetch { view value.now ≡ said_data (codes "must-refetch") → result ≡ Some Control.MustRefetch }
-    ensures entry { (e : Entry) → view value.now ≡ entry_data e → result ≡ None }
+/// The next token, which is passed over, where it is the name of a member.
+fn next_name<'a>(reader: &mut Reader<'a>) -> Option<&'a str>
+    ensures found { (s : List ℕ) (rest : List SpecToken) → reader.old ≡ key s ∷ rest → (option_map (λ t. t.now) result ≡ Some s) × (reader.new ≡ rest) }
+    ensures end { (rest : List SpecToken) → reader.old ≡ end_object ∷ rest → (option_map (λ t. t.now) result ≡ None) × (reader.new ≡ rest) }
+    ensures passed { length reader.new ≤ length reader.old }
+    ensures shorter { IfSome result (λ _. length reader.new < length reader.old) }
 {
-    match header_in(value, "control")? {
-        "up-to-date" => Some(Control::UpToDate),
-        "must-refetch" => Some(Control::MustRefetch),
+    match reader.next() {
+        Some(Token::Key(name)) => Some(name),
         _ => None,
     }
+}
+
+/// Whether the next token, which is passed over, is the brace of an item.
+fn opens_item(reader: &mut Reader<'_>) -> bool
+    ensures open { (rest : List SpecToken) → reader.old ≡ begin_object ∷ rest → (result ≡ true) × (reader.new ≡ rest) }
+    ensures end { (rest : List SpecToken) → reader.old ≡ end_array ∷ rest → result ≡ false }
+    ensures shorter { result ≡ true → length reader.new < length reader.old }
+{
+    match reader.next() {
+        Some(Token::BeginObject) => true,
+        _ => false,
+    }
+}
+
+fn heading_of(word: &str) -> Option<Heading>
+    ensures entry { (op : Op) → word.now ≡ operation op → result ≡ Some (Heading.Entry op) }
+    ensures up_to_date { word.now ≡ codes "up-to-date" → result ≡ Some (Heading.Control Control.UpToDate) }
+    ensures must_refetch { word.now ≡ codes "must-refetch" → result ≡ Some (Heading.Control Control.MustRefetch) }
+{
+    match word {
+        "insert" => Some(Heading::Entry(Op::Insert)),
+        "update" => Some(Heading::Entry(Op::Update)),
+        "delete" => Some(Heading::Entry(Op::Delete)),
+        "up-to-date" => Some(Heading::Control(Control::UpToDate)),
+        "must-refetch" => Some(Heading::Control(Control::MustRefetch)),
+        _ => None,
+    }
+}
+
+/// The headers of an item whose brace was read.
+fn take_heading(reader: &mut Reader<'_>) -> Option<Heading>
+    ensures entry { (op : Op) (rest : List SpecToken) → reader.old ≡ heading_tokens (codes "operation") (operation op) rest → (result ≡ Some (Heading.Entry op)) × (reader.new ≡ rest) }
+    ensures up_to_date { (rest : List SpecToken) → reader.old ≡ heading_tokens (codes "control") (codes "up-to-date") rest → (result ≡ Some (Heading.Control Control.UpToDate)) × (reader.new ≡ rest) }
+    ensures must_refetch { (rest : List SpecToken) → reader.old ≡ heading_tokens (codes "control") (codes "must-refetch") rest → (result ≡ Some (Heading.Control Control.MustRefetch)) × (reader.new ≡ rest) }
+    ensures passed { length reader.new ≤ length reader.old }
+{
+    pass(reader, 3);
+    let word = next_string(reader)?;
+    pass(reader, 1);
+    heading_of(word)
 }
 
 fn position(lsn: u64, pos: u64) -> Offset
@@ -126,42 +151,44 @@ fn position(lsn: u64, pos: u64) -> Offset
     Offset::At { lsn, pos }
 }
 
-fn offset_in(value: &Value) -> Option<Offset>
-    ensures { (offset : Offset) → IsOffset offset → get (codes "offset") (view value.now) ≡ Some (string (offset_text offset)) → result ≡ Some offset }
+fn offset_of(text: &str) -> Option<Offset>
+    ensures { (offset : Offset) → IsOffset offset → text.now ≡ offset_text offset → result ≡ Some offset }
 {
-    match Offset::read(string_in(value, "offset")?.as_bytes()) {
+    match Offset::read(text.as_bytes()) {
         Ok(Offset::Start) => Some(Offset::Start),
         Ok(Offset::At { lsn, pos }) => Some(position(lsn, pos)),
         Err(_) => None,
     }
 }
 
-fn value_of(alloc: Global, value: &Value) -> Result<CellValue, BodyError>
-    ensures { (word : Word) → view value.now ≡ value_data word → Reads result word }
+fn take_value(alloc: Global, reader: &mut Reader<'_>) -> Result<Value, BodyError>
+    ensures back { (word : Word) (rest : List SpecToken) → reader.old ≡ value_token word ∷ rest → ReadsThen result reader.new word rest }
+    ensures passed { length reader.new ≤ length reader.old }
 {
-    if value.is_null() {
-        return Ok(CellValue::Null);
-    }
-    match value.as_str() {
-        Some(words) => Ok(CellValue::Words(Text::of(alloc, words)?)),
-        None => Err(BodyError::BadBody),
+    match reader.next() {
+        Some(Token::Null) => Ok(Value::Null),
+        Some(Token::String(words)) => Ok(Value::Words(Text::of(alloc, words)?)),
+        _ => Err(BodyError::BadBody),
     }
 }
 
-fn cell_of(alloc: Global, name: &str, value: &Value) -> Result<Cell, BodyError>
-    ensures { (cell : Cell) → name.now ≡ cell.name → view value.now ≡ value_data cell.value → Reads result cell }
+fn take_cell(alloc: Global, name: &str, reader: &mut Reader<'_>) -> Result<Cell, BodyError>
+    ensures back { (cell : Cell) (rest : List SpecToken) → name.now ≡ cell.name → reader.old ≡ value_token cell.value ∷ rest → ReadsThen result reader.new cell rest }
+    ensures passed { length reader.new ≤ length reader.old }
 {
     let name = Text::of(alloc, name)?;
-    let value = value_of(alloc, value)?;
+    let value = take_value(alloc, reader)?;
     Ok(Cell { name, value })
 }
 
-fn cells_of(alloc: Global, members: &Map<String, Value>) -> Result<Cells, BodyError>
-    ensures { (cells : List Cell) → members_view members.now.entries ≡ cells_data cells → Reads result cells }
+/// The cells of an object whose brace was read.
+fn take_cells(alloc: Global, reader: &mut Reader<'_>) -> Result<Cells, BodyError>
+    ensures back { (cells : List Cell) (rest : List SpecToken) → reader.old ≡ cells_tokens cells rest → ReadsThen result reader.new cells rest }
+    ensures passed { length reader.new ≤ length reader.old }
 {
-    let mut cells = Vec::with_capacity(alloc, members.len())?;
-    for (name, value) in members.iter() {
-        match cell_of(alloc, name.as_str(), value) {
+    let mut cells = Vec::new(alloc);
+    while let Some(name) = next_name(reader) {
+        match take_cell(alloc, name, reader) {
             Ok(cell) => cells.push(cell)?,
             Err(error) => return Err(error),
         }
@@ -169,23 +196,26 @@ fn cells_of(alloc: Global, members: &Map<String, Value>) -> Result<Cells, BodyEr
     Ok(Cells::from_vec(cells))
 }
 
-fn entry_of(alloc: Global, value: &Value) -> Result<Entry, BodyError>
-    ensures { (e : Entry) → IsOffset e.offset → view value.now ≡ entry_data e → Reads result e }
+/// An entry whose headers were read.
+fn take_entry(alloc: Global, op: Op, reader: &mut Reader<'_>) -> Result<Entry, BodyError>
+    ensures back { (e : Entry) (rest : List SpecToken) → IsOffset e.offset → op ≡ e.op → reader.old ≡ entry_tokens e rest → ReadsThen result reader.new e rest }
+    ensures passed { length reader.new ≤ length reader.old }
 {
-    let Some(op) = op_in(value) else {
+    pass(reader, 1);
+    let Some(key) = next_string(reader) else {
         return Err(BodyError::BadBody);
     };
-    let Some(key) = string_in(value, "key") else {
+    pass(reader, 1);
+    let Some(offset) = next_string(reader) else {
         return Err(BodyError::BadBody);
     };
-    let Some(offset) = offset_in(value) else {
+    let Some(offset) = offset_of(offset) else {
         return Err(BodyError::BadBody);
     };
-    let Some(cells) = members_in(value, "value") else {
-        return Err(BodyError::BadBody);
-    };
+    pass(reader, 2);
     let key = Text::of(alloc, key)?;
-    let cells = cells_of(alloc, cells)?;
+    let cells = take_cells(alloc, reader)?;
+    pass(reader, 1);
     Ok(Entry {
         offset,
         op,
@@ -194,41 +224,45 @@ fn entry_of(alloc: Global, value: &Value) -> Result<Entry, BodyError>
     })
 }
 
-/// Takes one item of a body: an entry goes behind the others, a control takes the place of the last one.
+/// Takes one item of a body, whose brace was read: an entry goes behind the others, a control takes the place of the last
+/// one.
 fn take_item(
     alloc: Global,
-    item: &Value,
+    reader: &mut Reader<'_>,
     entries: &mut Vec<Entry>,
     control: &mut Control,
 ) -> Result<(), BodyError>
-    ensures entry { (e : Entry) → IsOffset e.offset → view item.now ≡ entry_data e → MatchResult result (λ _. (entries.new.items ≡ entries.old.items ++ e ∷ []) × (control.new ≡ control.old)) (λ x. x ≡ BodyError.OutOfMemory) }
-    ensures up_to_date { view item.now ≡ said_data (codes "up-to-date") → IsOk result × (entries.new.items ≡ entries.old.items) × (control.new ≡ Control.UpToDate) }
-    ensures must_refetch { view item.now ≡ said_data (codes "must-refetch") → IsOk result × (entries.new.items ≡ entries.old.items) × (control.new ≡ Control.MustRefetch) }
+    ensures entry { (e : Entry) (rest : List SpecToken) → IsOffset e.offset → reader.old ≡ heading_tokens (codes "operation") (operation e.op) (entry_tokens e rest) → MatchResult result (λ _. (entries.new.items ≡ entries.old.items ++ e ∷ []) × (control.new ≡ control.old) × (reader.new ≡ rest)) (λ x. x ≡ BodyError.OutOfMemory) }
+    ensures up_to_date { (rest : List SpecToken) → reader.old ≡ said_tokens (codes "up-to-date") rest → IsOk result × (entries.new.items ≡ entries.old.items) × (control.new ≡ Control.UpToDate) × (reader.new ≡ rest) }
+    ensures must_refetch { (rest : List SpecToken) → reader.old ≡ said_tokens (codes "must-refetch") rest → IsOk result × (entries.new.items ≡ entries.old.items) × (control.new ≡ Control.MustRefetch) × (reader.new ≡ rest) }
+    ensures passed { length reader.new ≤ length reader.old }
 {
-    if let Some(found) = control_in(item) {
-        *control = found;
-        return Ok(());
-    }
-    match entry_of(alloc, item) {
-        Ok(entry) => {
-            entries.push(entry)?;
+    match take_heading(reader) {
+        Some(Heading::Entry(op)) => match take_entry(alloc, op, reader) {
+            Ok(entry) => {
+                entries.push(entry)?;
+                Ok(())
+            }
+            Err(error) => Err(error),
+        },
+        Some(Heading::Control(found)) => {
+            *control = found;
+            pass(reader, 1);
             Ok(())
         }
-        Err(error) => Err(error),
+        None => Err(BodyError::BadBody),
     }
 }
 
 /// The entries and the control of a body.
-fn body_of(alloc: Global, value: &Value) -> Result<(Entries, Control), BodyError>
-    ensures { (es : List Entry) (said : Control) → HaveOffsets es → view value.now ≡ body_data es said → Reads result (es, said) }
+fn take_body(alloc: Global, reader: &mut Reader<'_>) -> Result<(Entries, Control), BodyError>
+    ensures { (es : List Entry) (said : Control) → HaveOffsets es → reader.old ≡ body_tokens es said → Reads result (es, said) }
 {
-    let Some(items) = value.as_array() else {
-        return Err(BodyError::BadBody);
-    };
-    let mut entries = Vec::with_capacity(alloc, items.len())?;
+    pass(reader, 1);
+    let mut entries = Vec::new(alloc);
     let mut control = Control::Nothing;
-    for item in items.as_slice() {
-        match take_item(alloc, item, &mut entries, &mut control) {
+    while opens_item(reader) {
+        match take_item(alloc, reader, &mut entries, &mut control) {
             Ok(()) => {}
             Err(error) => return Err(error),
         }
@@ -255,19 +289,13 @@ fn is_body(
     Ok(text == written.as_bytes())
 }
 
-/// The JSON value of a text.
-fn value_in(alloc: Global, text: &[u8]) -> Result<Value, BodyError>
-    ensures { (data_read : Data) → IsUtf8 text.now → read text.now ≡ Some data_read → MatchResult result (λ value. view value ≡ data_read) (λ e. e ≡ BodyError.OutOfMemory) }
+/// The entries and the control that the tokens of a text give.
+fn body_in(alloc: Global, text: &str) -> Result<(Entries, Control), BodyError>
+    ensures { (es : List Entry) (said : Control) → HaveOffsets es → text.now ≡ body_text es said → Reads result (es, said) }
 {
-    match Value::from_slice(alloc, text) {
-        Ok(value) => Ok(value),
-        Err(error) => {
-            if error.is_memory() {
-                return Err(BodyError::OutOfMemory);
-            }
-            Err(BodyError::BadBody)
-        }
-    }
+    let mut scratch = Scratch::new(alloc);
+    let mut reader = Reader::new(text, &mut scratch)?;
+    take_body(alloc, &mut reader)
 }
 
 /// The entries and the control that a body has.
@@ -277,11 +305,10 @@ pub fn read_body(alloc: Global, text: &[u8]) -> Result<(Entries, Control), BodyE
     ensures read { IfOk result (λ body. (text.now ≡ body_text body.0 body.1) × ArePlain body.0) }
     ensures back { (entries : List Entry) (control : Control) → ArePlain entries → HaveOffsets entries → IsUtf8 text.now → text.now ≡ body_text entries control → Reads result (entries, control) }
 {
-    let value = match value_in(alloc, text) {
-        Ok(value) => value,
-        Err(error) => return Err(error),
+    let Ok(words) = str::from_utf8(text) else {
+        return Err(BodyError::BadBody);
     };
-    let (entries, control) = match body_of(alloc, &value) {
+    let (entries, control) = match body_in(alloc, words) {
         Ok(body) => body,
         Err(error) => return Err(error),
     };
