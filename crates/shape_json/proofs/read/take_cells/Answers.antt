@@ -6,8 +6,7 @@ use Rattle.shape_json.proofs.read.take_cells.Goals as goal
 
 pub loop-name-preserved : goal.loop-name-preserved
 loop-name-preserved c =
-    let shorter : length c.next_name.new.reader < length c.loop-name.reader = c.in-Some.ensures.shorter in
-    (
+    let shorter : length c.next_name.new.reader < length c.loop-name.reader = c.in-Some.ensures.shorter in (
       omega (arith, c.loop-name.invariant.0, shorter, c.take_cell.ensures.passed),
       λ all rest e.
           let cells = c.loop-name.cells.items in
